@@ -1,5 +1,5 @@
 -- A list that is flipped twice.
-use Rattle.std.specs.Prelude.{◌≡◌, ◌-◌, Bool, not, List, [], ◌∷◌, map, refl}
+use Rattle.std.specs.Prelude.{◌≡◌, Bool, not, List, [], ◌∷◌, map, refl}
 use Rattle.std.proofs.Common.{◌∙◌, ap}
 use Rattle.std.proofs.Math.Bool.{not-not}
 

@@ -1,6 +1,5 @@
 -- The runs of one bit at the beginning and the end of a list, and where the other bit stands first and last.
-use Rattle.std.specs.Prelude.{◌≡◌, ◌≢◌, ℕ, ◌+◌, ◌-◌, ◌<◌, ◌≤◌, Bool, true, false, not, cond, List, [], ◌∷◌, length, reverse, slice_index_or, Option, Some, None, refl}
-use Rattle.std.specs.Bool.{beq}
+use Rattle.std.specs.Prelude.{◌≡◌, ◌≢◌, ℕ, ◌+◌, ◌-◌, ◌<◌, ◌≤◌, Bool, true, false, not, cond, List, length, reverse, slice_index_or, Some, None, refl}
 use Rattle.std.specs.List.{prefix_len, suffix_len}
 use Rattle.std.specs.Option.{unwrap_or}
 use Rattle.std.proofs.Common.{◌⊎◌, arith, inl, inr, sym, ◌∙◌, ap, ⊎_elim}

@@ -30,7 +30,6 @@ elements-all {b = b} Done {at} {ys = ys} left right some met edge full done =
     let end : left.start + right.len ≡ (left.start / b + right.len / b) * b + 0 = omega arith in
     let last : (left.start + right.len) % b ≡ 0 = rw end (mod-mul-add (left.start / b + right.len / b) b 0 some) in
     let shorter = rw last at met.inside in
-    let lengths = met.lengths in
     let same : left.len ≡ right.len = grind arith in
     let long = length-list b at ys right met.beside in
     rw (padded-full left.len (list_in b at ys right) (omega arith))
@@ -54,7 +53,6 @@ pub beside-stop : {C S : Type 0} {b : ℕ} (numbers : C → List ℕ) (Done : (�
     → first.start ≡ left.start → part.start ≡ right.start → part.len ≡ first.len → part.len ≤ right.len → stopped t ≡ true
     → Done at c d first (list_in b at ys part) s t → Done at c d left (bits_beside b at ys left right) s t
 beside-stop {b = b} numbers Done stop {at} {c} {d} {ys} {s} {t} left right first part met place source long fits ends done =
-    let lengths = met.lengths in
     let rest : Window = record { start = part.start + part.len; len = right.len - part.len } in
     let behind = length-list b at ys rest (HasWindow-part b ys right rest met.beside (omega arith) (omega arith)) in
     rw (sym (beside-join b at ys part rest right left.len (left.len - first.len) met.beside source refl (omega arith) (omega arith)))

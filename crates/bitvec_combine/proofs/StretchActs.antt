@@ -35,8 +35,6 @@ stretch-part {b} {xs} {now} {ys} {stretch} m k has long fits carried =
 -- a place in a memory, and one in the other, as numbers of a word
 word-place : (b : ℕ) (xs : List ℕ) (window : Window) (e : ℕ) → IsWidth b → HasWindow b xs window → e * b ≤ window.start + window.len → e < 2 ^ 64
 word-place b xs window e width has most =
-    let fits = has.fits in
-    let len = has.within.len in
     let some = mul-le-mul_left e (width_some b width) in
     omega arith
 
@@ -48,9 +46,6 @@ source-word {b} m width has most = let order = mul-le-mul_left b most in word-pl
 
 pub source-inside : {b : ℕ} {xs ys : List ℕ} {stretch : Stretch} {equal : Bool} {carry : ℕ} (m : ℕ) → HasStretch b xs ys stretch equal carry → m < stretch.count → stretch.source + m < length ys
 source-inside {b} {ys = ys} {stretch} m has more =
-    let len = has.span.beside.within.len in
-    let start = has.span.beside.within.start in
-    let some = has.bound in
     let order = mul-le-mul_left b more in
     element_of b (stretch.source + m) 0 (length ys) (omega arith)
 

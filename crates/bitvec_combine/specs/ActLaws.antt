@@ -47,8 +47,6 @@ spans-fit i k count is = rw is (div-mul-le_self count k)
 pub met-rest : (b : ℕ) (xs now ys : List ℕ) (left right : Window) (t : ℕ) → 0 < b → HasMet b xs ys left right → length now ≡ length xs → t ≡ min left.len (b - left.start % b) → t ≢ left.len
     → HasMet b now ys (window_after t left) (window_after t right)
 met-rest b xs now ys left right t some met kept part more =
-    let lengths = met.lengths in
-    let reach = met.reach in
     let place = div-add-mod' left.start b in
     let head = mod_below left.start b some in
     let behind : t < right.len =

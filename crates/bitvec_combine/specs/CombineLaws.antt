@@ -70,8 +70,6 @@ module _ {E C : Type 0} (access : Access C E) (b : ℕ) (at : ℕ → ℕ → �
       let start = cut.start in
       let next = cut.next in
       let len = cut.len in
-      let first_long = before.long in
-      let second_long = after.long in
       let count = touched-edge b first.start first.len second.len some (rw (← next) cut.edge) in
       let all : touched_count b whole.start whole.len ≡ touched_count b first.start first.len + touched_count b second.start second.len = rw (len, ← start, next) count in
       record {

@@ -1,5 +1,5 @@
 -- Elements, and memories of them, under orders that agree, and under one that runs the other way.
-use Rattle.std.specs.Prelude.{◌≡◌, ℕ, ◌-◌, ◌/◌, ◌%◌, ◌<◌, ◌==◌, Bool, true, false, List, length, reverse, slice_index, slice_index_or, refl}
+use Rattle.std.specs.Prelude.{◌≡◌, ℕ, ◌-◌, ◌/◌, ◌%◌, ◌<◌, ◌==◌, Bool, true, false, List, length, reverse, slice_index, slice_index_or}
 use Rattle.std.specs.Bool.{beq}
 use Rattle.std.specs.Int.{bit_at}
 use Rattle.std.proofs.Common.{arith, sym, ◌∙◌, ap}
@@ -7,7 +7,6 @@ use Rattle.std.proofs.lemmas.List.{get_or-reverse, same_lists}
 use Rattle.std.proofs.lemmas.Nat.{mod_below}
 use Rattle.bitvec_engine.specs.Direction.{Agrees}
 use Rattle.bitvec_base.specs.declared.window.Window.{Window}
-use Rattle.bitvec_base.specs.Lists.{same_bits}
 use Rattle.bitvec_base.specs.Memory.{element_bits, list_in, memory_bits, place_bit}
 use Rattle.bitvec_base.specs.MemoryLaws.{get-element_bits, get-memory_bits, length-element_bits, length-memory_bits}
 use Rattle.bitvec_base.specs.Window.{window_of}
@@ -35,9 +34,6 @@ memory-agrees b at other xs some agrees =
 
 pub list-agrees : (b : ℕ) (at other : ℕ → ℕ → ℕ) (xs : List ℕ) (window : Window) → 0 < b → Agrees b at other → list_in b at xs window ≡ list_in b other xs window
 list-agrees b at other xs window some agrees = ap (λ (bits : List Bool). window_of bits window) (memory-agrees b at other xs some agrees)
-
-pub same-agrees : (b : ℕ) (at other : ℕ → ℕ → ℕ) (xs ys : List ℕ) (window right : Window) → 0 < b → Agrees b at other → same_bits (list_in b other xs window) (list_in b other ys right) ≡ same_bits (list_in b at xs window) (list_in b at ys right)
-same-agrees b at other xs ys window right some agrees = rw (list-agrees b at other xs window some agrees, list-agrees b at other ys right some agrees) refl
 
 -- ---- orders that run the same way, and opposite ways
 

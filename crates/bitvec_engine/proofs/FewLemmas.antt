@@ -1,37 +1,35 @@
 -- Windows of at most 64 bits as words: of one element or two, and across the elements of a word.
 use Rattle.std.specs.Prelude.{◌≡◌, ◌≢◌, ℕ, ◌+◌, ◌-◌, ◌/◌, ◌%◌, ◌^◌, ◌<◌, ◌≤◌, ◌==◌, Bool, false, cond, List, ◌++◌, length, replicate, slice_index, slice_range, take, bit_or, count_by, count_ones, refl}
-use Rattle.std.proofs.Common.{arith, sym, ◌∙◌, ap, inl, inr, length-append}
+use Rattle.std.proofs.Common.{arith, sym, ◌∙◌, ap, inl, inr, ⊎_elim, length-append, zero, suc}
+use Rattle.std.proofs.lemmas.Bool.{cases_lt}
 use Rattle.std.proofs.lemmas.Bool.Decides.{Decides-eqb, Decides-like, same_from_decides}
-use Rattle.std.proofs.lemmas.List.{length-replicate}
 use Rattle.std.proofs.lemmas.List.Folds.{sum_by-replicate}
 use Rattle.std.proofs.lemmas.List.Sums.{sum_by-append}
 use Rattle.std.proofs.lemmas.Nat.{div-add-mod', mod_below}
 use Rattle.bitvec_base.specs.BitsFixMemory.{element_bits-fix}
-use Rattle.bitvec_base.specs.declared.part.Part.{Part}
 use Rattle.bitvec_base.specs.declared.window.Window.{Window}
 use Rattle.bitvec_base.specs.Lists.{same_bits}
 use Rattle.bitvec_base.specs.ListsLaws.{same_bits-decides}
 use Rattle.bitvec_base.specs.Memory.{HasWindow, Writes, element_bits, list_in}
 use Rattle.bitvec_base.specs.MemoryLaws.{length-element_bits}
 use Rattle.bitvec_base.specs.Order.{Permutes}
-use Rattle.bitvec_base.specs.Parts.{first_part_of, part_window}
+use Rattle.bitvec_base.specs.Parts.{part_window}
 use Rattle.bitvec_base.specs.SliceLaws.{range-from_start}
 use Rattle.bitvec_base.specs.Window.{write_at}
-use Rattle.bitvec_base.specs.WriteLaws.{length-slice_range}
 use Rattle.bitvec_base.specs.WritesLaws.{Writes-is, Writes-join}
-use Rattle.bitvec_words.specs.WholeLaws.{Writes-same}
 use Rattle.bitvec_words.specs.AcrossLaws.{Writes-behind, first-values, length-first, word-tail}
 use Rattle.bitvec_words.specs.WordLaws.{padded-all, take-all, word_whole}
 use Rattle.bitvec_store.specs.Width.{IsWidth}
 use Rattle.bitvec_store.specs.WidthLaws.{at_each_width, width_some}
-use Rattle.bitvec_cells.specs.Cost.{touched_count}
+use Rattle.bitvec_cells.specs.Cost.{fill_loads, touched_count}
 use Rattle.bitvec_cells.specs.ElementLaws.{element-count}
-use Rattle.bitvec_cells.specs.WalkLaws.{first-len, first-place}
+use Rattle.bitvec_cells.specs.WalkLaws.{touched-none}
 use Rattle.bitvec_words.specs.Elements.{elements_window}
 use Rattle.bitvec_words.specs.ShortWindow.{padded}
 use Rattle.bitvec_words.specs.FieldLaws.{element_of}
-use Rattle.bitvec_words.specs.MovedLaws.{element-joined, word-there, take-word, take-range, written-padded}
-use Rattle.bitvec_words.specs.TouchedLaws.{touched-first, touched-from_full, touched-two}
+use Rattle.bitvec_words.specs.FillingLaws.{fill_loads-some}
+use Rattle.bitvec_words.specs.MovedLaws.{element-joined, take-word, written-padded}
+use Rattle.bitvec_words.specs.TouchedLaws.{touched-first, touched-from_full, touched-one, touched-two}
 
 -- values moved to the start
 padded-moved : (b n : ℕ) (list : List Bool) → n ≤ length list → n ≤ b → write_at (replicate b false) 0 (slice_range list 0 (0 + n)) ≡ padded b (take n list)
@@ -44,6 +42,22 @@ pub padded-word : (b : ℕ) (at : ℕ → ℕ → ℕ) (n element word : ℕ) (l
 padded-word b at n element word list short fits put is =
     let wide = length-element_bits b at element in
     put ∙ padded-moved 64 n (element_bits b at element) (omega arith) fits ∙ ap (padded 64) is
+
+-- ---- the first bits of a word, moved to the start of an element, for a window no longer than the element
+
+pub few-stored : (b : ℕ) (at : ℕ → ℕ → ℕ) (n element word : ℕ) → n ≤ b → n ≤ 64 → element_bits b at element ≡ write_at (replicate b false) 0 (slice_range (element_bits 64 at word) 0 (0 + n)) → take n (element_bits b at element) ≡ take n (element_bits 64 at word)
+few-stored b at n element word short fits put =
+    let wide = length-element_bits 64 at word in
+    take-word b n _ _ (put ∙ padded-moved b n (element_bits 64 at word) (omega arith) short) (sym (length-first (element_bits 64 at word) n (omega arith)))
+
+pub few-touched : (b s n : ℕ) → 0 < b → n ≤ b → touched_count b s n ≤ fill_loads n
+few-touched b s zero some short = let none = touched-none b s in omega arith
+few-touched b s (suc n) some short =
+    let loads = fill_loads-some (suc n) (omega arith) in
+    ⊎_elim
+    (λ (over : b < s % b + suc n). let two = touched-two b s (suc n) some short over in omega arith)
+    (λ (fits : s % b + suc n ≤ b). let one = touched-one b s (suc n) some (omega arith) fits in omega arith)
+    (cases_lt b (s % b + suc n))
 
 -- ---- 64 bits that begin inside an element narrower than a word
 
@@ -100,61 +114,6 @@ module _ (b : ℕ) (window : Window) (width : IsWidth b) (narrow : b < 64) (size
       (ap (λ (l : List Bool). take (64 - skip) bits ++ slice_range l 0 skip) last-bits
       ∙ word-tail bits b skip wide below narrow
       ∙ sym (take-all bits window.len (omega arith)))
-
--- ---- a window no longer than an element: the part of its first element, of t places, and what is left
-
--- what a part takes of a word
-stored-part : (b from to n e : ℕ) (bits word : List Bool) → bits ≡ write_at (replicate b false) from (slice_range word n e) → from ≤ to → to ≤ b → e ≤ length word → e - n ≡ to - from → slice_range bits from to ≡ slice_range word n e
-stored-part b from to n e bits word put order bound fits size =
-    let long = length-slice_range word n e fits in
-    let zeros = length-replicate b false in
-    ap (λ (l : List Bool). slice_range l from to) put ∙ word-there b from to (replicate b false) (slice_range word n e) zeros bound (omega arith) order
-
-module _ (b : ℕ) (at : ℕ → ℕ → ℕ) (old mid : List ℕ) (window : Window) (t word first : ℕ) (some : 0 < b) (more : 0 < window.len) (bound : window.len ≤ 64) (short : window.len ≤ b) (step : t ≡ (first_part_of b window).to - (first_part_of b window).from) (has : HasWindow b old window)
-    (put : element_bits b at first ≡ write_at (replicate b false) (first_part_of b window).from (slice_range (element_bits 64 at word) 0 (0 + t)))
-    (before : Writes b at old mid (part_window b (first_part_of b window)) (slice_range (element_bits b at first) (first_part_of b window).from (first_part_of b window).to)) where
-  abbrev begin : Window
-  begin = record { start = window.start; len = t }
-
-  stored-first : Writes b at old mid begin (take t (element_bits 64 at word))
-  stored-first =
-      let part = first_part_of b window in
-      let len = first-len b window some more in
-      let wide = length-element_bits 64 at word in
-      Writes-is b at old mid begin _ _
-      (Writes-same (part_window b part) begin (sym (first-place b window)) step before)
-      (stored-part b part.from part.to 0 (0 + t) (element_bits b at first) (element_bits 64 at word) put (omega arith) (omega arith) (omega arith) (omega arith)
-      ∙ range-from_start (element_bits 64 at word) t (0 + t) (omega arith))
-
-  pub stored-one : window.len ≤ t → Writes b at old mid window (take window.len (element_bits 64 at word))
-  stored-one all =
-      let len = first-len b window some more in
-      let same : t ≡ window.len = omega arith in
-      rw same at stored-first
-
-  pub stored-two : (new : List ℕ) (second : ℕ) → t < window.len → element_bits b at second ≡ write_at (replicate b false) 0 (slice_range (element_bits 64 at word) t (t + (window.len - t)))
-      → Writes b at mid new (part_window b (record { element = window.start / b + 1; from = 0; to = window.len - t })) (slice_range (element_bits b at second) 0 (window.len - t))
-      → Writes b at old new window (take window.len (element_bits 64 at word))
-  stored-two new second left rest after =
-      let bits = element_bits 64 at word in
-      let part = first_part_of b window in
-      let tail : Part = record { element = window.start / b + 1; from = 0; to = window.len - t } in
-      let len = first-len b window some more in
-      let place = div-add-mod' window.start b in
-      let below = mod_below window.start b some in
-      let wide = length-element_bits 64 at word in
-      let end : t + (window.len - t) ≡ window.len = omega arith in
-      Writes-is b at old new window _ _
-      (Writes-join b at old mid new begin (part_window b tail) window _ _ has refl (omega arith) (omega arith) stored-first after)
-      (ap (λ (l : List Bool). take t bits ++ l) (stored-part b 0 (window.len - t) t (t + (window.len - t)) (element_bits b at second) bits rest (omega arith) (omega arith) (omega arith) (omega arith))
-      ∙ take-range bits t (t + (window.len - t)) window.len (omega arith) (omega arith) (sym end))
-
--- the elements that such a window touches
-pub touched-short : (b t : ℕ) (window : Window) → 0 < b → 0 < window.len → window.len ≤ b → t ≡ (first_part_of b window).to - (first_part_of b window).from → t < window.len → touched_count b window.start window.len ≡ 2
-touched-short b t window some more short step left =
-    let len = first-len b window some more in
-    let below = mod_below window.start b some in
-    touched-two b window.start window.len some short (omega arith)
 
 -- ---- words of 64 bits as numbers
 

@@ -4,10 +4,12 @@ ghost use Rattle.bitvec_base.specs.Memory.{HasWindow, Writes, element_bits, list
 ghost use Rattle.bitvec_cells.specs.Access.{CostsAtMost};
 ghost use Rattle.bitvec_cells.specs.Cost.{fill_loads, touched_count};
 
-use bitvec_base::{Part, Window, first_part};
+use bitvec_base::{Part, Window};
 use bitvec_cells::{Cells, CellsRead};
 use bitvec_store::BitStore;
-use bitvec_words::{WORD_BITS, WordOrder, moved, store_elements, store_part, store_parts};
+use bitvec_words::{
+    WORD_BITS, WordOrder, moved, store_elements, store_part, store_parts, store_short,
+};
 
 /// A window gets the first bits of a word, as many as it has; all other bits of the memory stay. Condition, loads and
 /// stores: as for [`store_parts`]. It has no loop where the window is no longer than an element or has 64 bits.
@@ -21,7 +23,8 @@ pub fn store_few<W: WordOrder, C: Cells>(cells: &mut C, window: Window, word: u6
 {
     let bits = C::Elem::BITS as usize;
     if window.len <= bits {
-        store_short::<W, C>(cells, window, word);
+        let element = moved::<W, u64, C::Elem>(word, 0, window.len, 0);
+        store_short::<W, C>(cells, window, element);
     } else if window.len < WORD_BITS {
         store_parts::<W, C>(cells, window, word);
     } else if window.start % bits > 0 {
@@ -55,32 +58,4 @@ fn store_across<W: WordOrder, C: Cells>(cells: &mut C, window: Window, word: u64
     };
     let behind = moved::<W, u64, C::Elem>(word, WORD_BITS - skip, skip, 0);
     store_part::<W, C>(cells, tail, behind);
-}
-
-/// [`store_few`] of a window no longer than an element: a part of one element, or of two.
-#[inline(always)]
-fn store_short<W: WordOrder, C: Cells>(cells: &mut C, window: Window, word: u64)
-    requires window { HasWindow C.Elem.BITS (C.numbers cells.old) window }
-    requires bound { window.len ≤ 64 }
-    requires short { window.len ≤ C.Elem.BITS }
-    ensures writes { Writes C.Elem.BITS W.at (C.numbers cells.old) (C.numbers cells.new) window
-        (take window.len (element_bits 64 W.at word)) }
-    ensures cost { CostsAtMost C.CellsRead cells.old cells.new (fill_loads window.len) (touched_count C.Elem.BITS window.start window.len) }
-{
-    if window.len == 0 {
-        return;
-    }
-    let head = first_part(C::Elem::BITS as usize, window);
-    let count = head.len();
-    let first = moved::<W, u64, C::Elem>(word, 0, count, head.from);
-    store_part::<W, C>(cells, head, first);
-    if count < window.len {
-        let tail = Part {
-            element: head.element + 1,
-            from: 0,
-            to: window.len - count,
-        };
-        let second = moved::<W, u64, C::Elem>(word, count, tail.to, 0);
-        store_part::<W, C>(cells, tail, second);
-    }
 }

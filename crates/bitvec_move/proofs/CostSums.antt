@@ -1,8 +1,12 @@
 -- What calls cost that follow one another.
 use Rattle.std.specs.Prelude.{◌≡◌, ℕ, ◌+◌, ◌-◌, ◌*◌, ◌≤◌}
-use Rattle.std.proofs.Common.{arith, refl, ◌∙◌}
+use Rattle.std.proofs.Common.{arith, refl, true, ◌∙◌}
+use Rattle.bitvec_store.specs.Width.{IsWidth}
+use Rattle.bitvec_store.specs.WidthLaws.{width_some}
 use Rattle.bitvec_cells.specs.declared.cells.CellsRead.{Ghosts as Access}
 use Rattle.bitvec_cells.specs.Access.{Costs, CostsAtMost, OnlyReads}
+use Rattle.bitvec_cells.specs.Cost.{edit_loads, touched_count, write_stores}
+use Rattle.bitvec_cells.specs.CostLaws.{touched_read, touched_stored}
 
 module _ {E C : Type 0} (access : Access C E) where
   -- none
@@ -30,9 +34,13 @@ module _ {E C : Type 0} (access : Access C E) where
   pub Costs-stored : (a b c : C) (m k : ℕ) → Costs access a b m m → access.borrow c ≡ access.borrow b → access.loads c ≡ access.loads b → access.stores c ≡ access.stores b + 1 → k - 1 ≡ m → k ≡ 1 + (k - 1) → Costs access a c (k - 1) k
   Costs-stored a b c m k cost again same store all more = record { borrow = again ∙ cost.borrow; loads = omega arith; stores = omega arith }
 
-  -- what may cost more
-  pub Costs-late : (a b : C) (n late : ℕ) → Costs access a b n n → CostsAtMost access a b (n + 1 + late) (n + late)
-  Costs-late a b n late cost = record { borrow = cost.borrow; loads = omega arith; stores = omega arith }
+  -- each element that n bits touch, or what may cost more
+  pub Costs-touched : (a b : C) (w s n m : ℕ) → IsWidth w → m ≡ n → Costs access a b (touched_count w s n) (touched_count w s n) → CostsAtMost access a b (edit_loads w true m) (write_stores w true m)
+  Costs-touched a b w s n m width same cost =
+      let some = width_some w width in
+      let loads = touched_read w true s n some in
+      let stores = touched_stored w true s n some in
+      rw same (record { borrow = cost.borrow; loads = omega arith; stores = omega arith })
 
   -- words of eight bytes: what is loaded before the first one, each of them, and one more
   pub Costs-held : (a b c : C) → OnlyReads access a b 9 → access.borrow c ≡ access.borrow b → access.loads c ≡ access.loads b + 1 → access.stores c ≡ access.stores b → Costs access a c (0 * 8 + 10) (0 * 8)
@@ -41,10 +49,7 @@ module _ {E C : Type 0} (access : Access C E) where
   pub Costs-word : (a b c d : C) (step : ℕ) → Costs access a b (step * 8 + 10) (step * 8) → OnlyReads access b c 8 → Costs access c d 0 8 → Costs access a d ((step + 1) * 8 + 10) ((step + 1) * 8)
   Costs-word a b c d step before read stored = record { borrow = stored.borrow ∙ read.borrow ∙ before.borrow; loads = omega arith; stores = omega arith }
 
-  pub Costs-last_word : (a b c : C) (m n : ℕ) → Costs access a b (m + 10) m → Costs access b c 0 8 → m ≤ n → CostsAtMost access a c (n + 10) (n + 8)
-  Costs-last_word a b c m n before stored most = record { borrow = stored.borrow ∙ before.borrow; loads = omega arith; stores = omega arith }
-
   -- bits at two edges, which are loaded first and stored last, and whole elements
-  pub Costs-edges : (a b c d e f : C) (m n k late h j loads stores : ℕ) → OnlyReads access a b m → OnlyReads access b c n → CostsAtMost access c d (k + 1 + late) (k + late) → CostsAtMost access d e 1 h → CostsAtMost access e f 1 j
+  pub Costs-edges : (a b c d e f : C) (m n k late h j loads stores : ℕ) → OnlyReads access a b m → OnlyReads access b c n → CostsAtMost access c d (k + 1 + late) (k + late) → CostsAtMost access d e h h → h ≤ 1 → CostsAtMost access e f j j → j ≤ 1
       → m + n + (k + 1 + late) + 2 ≤ loads → k + late + h + j ≤ stores → CostsAtMost access a f loads stores
-  Costs-edges a b c d e f m n k late h j loads stores front back whole head tail read written = record { borrow = tail.borrow ∙ head.borrow ∙ whole.borrow ∙ back.borrow ∙ front.borrow; loads = omega arith; stores = omega arith }
+  Costs-edges a b c d e f m n k late h j loads stores front back whole head few tail last read written = record { borrow = tail.borrow ∙ head.borrow ∙ whole.borrow ∙ back.borrow ∙ front.borrow; loads = omega arith; stores = omega arith }

@@ -1,5 +1,5 @@
 -- What proofs of copies, moves and exchanges need of windows and costs, said by plain numbers.
-use Rattle.std.proofs.Common.{◌≡◌, ℕ, ◌+◌, ◌-◌, ◌*◌, ◌/◌, ◌%◌, ◌^◌, ◌<◌, ◌≤◌, true, List, length, arith, refl}
+use Rattle.std.proofs.Common.{◌≡◌, ℕ, ◌+◌, ◌-◌, ◌*◌, ◌/◌, ◌<◌, ◌≤◌, true, List, length, arith}
 use Rattle.std.proofs.lemmas.Nat.{div_below}
 use Rattle.bitvec_base.specs.declared.part.Part.{Part}
 use Rattle.bitvec_base.specs.declared.window.Window.{Window}
@@ -12,9 +12,7 @@ use Rattle.bitvec_store.specs.Width.{IsWidth}
 use Rattle.bitvec_store.specs.WidthLaws.{width_some}
 use Rattle.bitvec_cells.specs.Cost.{read_loads, touched_count, write_stores}
 use Rattle.bitvec_cells.specs.CostLaws.{touched_read, touched_stored}
-use Rattle.bitvec_words.specs.TouchedLaws.{next-inside}
 use Rattle.bitvec_words.specs.WholeLaws.{HasWindow-part}
-use Rattle.bitvec_words.specs.WordLaws.{fits-word}
 use Rattle.bitvec_words.specs.Moves.{Copies, Swaps}
 
 -- ---- numbers
@@ -22,7 +20,6 @@ use Rattle.bitvec_words.specs.Moves.{Copies, Swaps}
 -- the element of a place in a window, where the memory may have changed
 pub place-element : (b w : ℕ) (xs ys : List ℕ) (window : Window) (e : ℕ) → IsWidth b → w ≡ b → HasWindow b xs window → e < window.start + window.len → length ys ≡ length xs → e / w < length ys
 place-element b w xs ys window e width is has below kept =
-    let len = has.within.len in
     let all : e < length xs * b = omega arith in
     rw (is, kept) (div_below e b (length xs) (width_some b width) all)
 
@@ -62,21 +59,8 @@ Swaps-same b at xs new_xs ys new_ys part source left right start len source_star
 pub after-span : (b : ℕ) (xs now ys others : List ℕ) (left right : Window) (t : ℕ) → HasSpan b xs ys left right → length now ≡ length xs → length others ≡ length ys
     → t ≤ left.len → HasSpan b now others (window_after t left) (window_after t right)
 after-span b xs now ys others left right t has kept right_kept fits =
-    let lengths = has.lengths in
     record {
       window = HasWindow-part b now left (window_after t left) (HasWindow-kept b xs now left has.window kept) (omega arith) (omega arith);
       beside = HasWindow-part b others right (window_after t right) (HasWindow-kept b ys others right has.beside right_kept) (omega arith) (omega arith);
       lengths = omega arith;
     }
-
--- the second element of a window that has bits behind its first one
-pub second-element : (b w : ℕ) (xs ys : List ℕ) (window : Window) → IsWidth b → w ≡ b → HasWindow b xs window → w < window.start % w + window.len → length ys ≡ length xs
-    → window.start / w + 1 < length ys
-second-element b w xs ys window width is has over same =
-    let more = rw is at over in
-    rw (is, same) (next-inside b xs window has more)
-
-pub second-word : (b w : ℕ) (xs : List ℕ) (window : Window) → IsWidth b → w ≡ b → HasWindow b xs window → w < window.start % w + window.len → window.start / w + 1 < 2 ^ 64
-second-word b w xs window width is has over =
-    let here = second-element b w xs xs window width is has over refl in
-    fits-word b (window.start / w + 1) xs window width has (omega arith)

@@ -1,5 +1,5 @@
 -- Windows of two memories that are exchanged a part at a time.
-use Rattle.std.specs.Prelude.{◌≡◌, ℕ, ◌+◌, ◌-◌, ◌*◌, ◌/◌, ◌%◌, ◌<◌, ◌≤◌, Bool, List, ◌++◌, length, slice_range, slice_set, slice_index, refl}
+use Rattle.std.specs.Prelude.{◌≡◌, ℕ, min, ◌+◌, ◌-◌, ◌*◌, ◌/◌, ◌%◌, ◌<◌, ◌≤◌, Bool, List, ◌++◌, length, slice_range, slice_set, slice_index, refl}
 use Rattle.std.proofs.Common.{arith, sym, ◌∙◌, ap}
 use Rattle.std.proofs.Math.Nat.{mul-le-mul_left}
 use Rattle.std.proofs.lemmas.List.{length-set}
@@ -26,7 +26,7 @@ pub record SideBySide (first rest whole : Window) : Type 0 where
   pub len : whole.len ≡ first.len + rest.len
 
 -- the part of a window that has the indices of another one's first part, of t places, and what is left
-pub beside-head : (b : ℕ) (to window : Window) (t : ℕ) → 0 < b → 0 < to.len → t ≡ (first_part_of b to).to - (first_part_of b to).from
+pub beside-head : (b : ℕ) (to window : Window) (t : ℕ) → 0 < b → 0 < to.len → t ≡ min to.len (b - to.start % b)
     → to.len ≡ window.len → to.start % b ≡ window.start % b
     → SideBySide (part_window b (record (first_part_of b to) { element = window.start / b })) (window_after t window) window
 beside-head b to window t some more part same phases =
@@ -118,8 +118,6 @@ first_elements b xs first count step has more =
 pub next_element : (b : ℕ) (xs ys : List ℕ) (first count step : ℕ) → 0 < b → HasWindow b xs (elements_window b first count) → step < count
     → length ys ≡ length xs → first + step < length ys
 next_element b xs ys first count step some has more same =
-    let start = has.within.start in
-    let len = has.within.len in
     let order = mul-le-mul_left b more in
     rw same (element_of b (first + step) 0 (length xs) (omega arith))
 

@@ -75,8 +75,6 @@ behind-element b s count some =
 -- a window's first element
 pub first-inside : (b : ℕ) (xs : List ℕ) (window : Window) → HasWindow b xs window → 0 < window.len → window.start / b < length xs
 first-inside b xs window has more =
-    let start = has.within.start in
-    let len = has.within.len in
     let place = div-add-mod' window.start b in
     element_of b (window.start / b) (window.start % b) (length xs) (omega arith)
 
@@ -188,12 +186,9 @@ pub across-next : (b : ℕ) (at : ℕ → ℕ → ℕ) (xs ys : List ℕ) (sourc
     → Writes b at (slice_set xs source p) (slice_set ys (source + step) q) (elements_window_from b source skip step) list
     → source + step + 1 < length ys
 across-next b at xs ys source skip count step p q list some has more before =
-    let start = has.within.start in
-    let len = has.within.len in
     let order = mul-le-mul_left b more in
     let now = length-set ys (source + step) q in
     let old = length-set xs source p in
-    let kept = before.elements in
     let inside : source + step + 1 < length xs = element_of b (source + step + 1) (skip - 1) (length xs) (omega arith) in
     omega arith
 
@@ -235,10 +230,8 @@ across-bits b at old mid xs ys first source skip count step p q w u some inside 
     let long = length-element_bits b at (slice_index mid (first + step)) in
     let next = across-next b at xs ys source skip count step p q _ inside its more before in
     let place : source + (step + 1) ≡ source + step + 1 = omega arith in
-    let fits = its.fits in
     let now = length-set ys (source + step) q in
     let old_long = length-set xs source p in
-    let same = before.elements in
     let size : b * length ys ≡ b * length xs = ap (λ (n : ℕ). b * n) (omega arith) in
     let fit = element_fits b (source + step + 1) (length ys) next in
     let here : HasWindow b ys (record { start = (source + step) * b + skip; len = b }) =

@@ -1,20 +1,16 @@
 -- Bytes moved by words: what a word of a memory has, and words written side by side or over one another.
-use Rattle.std.specs.Prelude.{◌≡◌, ℕ, ◌+◌, ◌-◌, ◌*◌, ◌^◌, ◌<◌, ◌≤◌, Bool, true, false, if◌then◌else◌, nat_eq, List, ◌++◌, length, take, drop, replicate, slice_index, slice_range, refl}
-use Rattle.std.proofs.Common.{arith, rules, not, sym, ◌∙◌, ap}
+use Rattle.std.specs.Prelude.{◌≡◌, ℕ, ◌+◌, ◌-◌, ◌*◌, ◌<◌, ◌≤◌, Bool, true, false, if◌then◌else◌, List, ◌++◌, length, take, drop, replicate, slice_index, slice_range, refl}
+use Rattle.std.proofs.Common.{arith, rules, sym, ◌∙◌, ap}
 use Rattle.std.proofs.lemmas.List.{same_lists, places}
-use Rattle.std.proofs.lemmas.Bool.Decides.{nat_tests}
-use Rattle.bitvec_base.specs.Memory.{HasWindow, Writes, element_bits, list_in, memory_bits}
+use Rattle.bitvec_base.specs.Memory.{HasWindow, element_bits, list_in, memory_bits}
 use Rattle.bitvec_base.specs.MemoryLaws.{element-range, length-element_bits, length-memory_bits}
 use Rattle.bitvec_base.specs.Window.{window_of, write_at}
-use Rattle.bitvec_base.specs.WritesLaws.{length-list, list-behind, list-range}
-use Rattle.bitvec_store.specs.Width.{IsWidth}
+use Rattle.bitvec_base.specs.WritesLaws.{list-behind, list-range}
 use Rattle.bitvec_words.specs.Elements.{elements_window, elements_window_from}
 use Rattle.bitvec_words.specs.FieldLaws.{list-whole}
-use Rattle.bitvec_words.specs.MovedPlaceLaws.{from-inside}
 use Rattle.bitvec_words.specs.WholeLaws.{HasWindow-part}
-use Rattle.bitvec_words.specs.WordLaws.{fits-word}
-use Rattle.bitvec_words.specs.Moves.{CopiesElements, CopiesSome, HasSkippedElements, IsToward, moved_place, nth_place, waiting_place}
-use Rattle.bitvec_move.proofs.WithinLaws.{list-ahead}
+use Rattle.bitvec_words.specs.Moves.{CopiesElements, CopiesSome, HasSkippedElements, IsToward, moved_place, waiting_place}
+use Rattle.bitvec_move.proofs.WithinLaws.{list-ahead, part_place}
 
 -- ---- lists
 
@@ -36,17 +32,6 @@ list-before_word list word a b c n skip below all long fits same =
     let last : drop (c + skip) word ≡ drop skip (slice_range word c n) = same_lists _ _ (search (rules, places)) (λ k d inside. grind (arith, places)) in
     rw (last, same) (same_lists _ _ (search (rules, places)) (λ k d inside. grind (arith, places)))
 
--- two parts of a list, written over one another or side by side, from the first one on or from the last one back
-over-next : (list other : List Bool) (s a t n m : ℕ) → t ≤ n → n ≤ t + m → s + (t + m) ≤ length list → a + (t + m) ≤ length other
-    → write_at (write_at list s (slice_range other a (a + n))) (s + t) (slice_range other (a + t) (a + t + m)) ≡ write_at list s (slice_range other a (a + (t + m)))
-unfolding write_at
-over-next list other s a t n m meet short fits inside = same_lists _ _ (search (rules, places)) (λ k d below. grind (arith, places))
-
-over-back : (list other : List Bool) (s a t n m : ℕ) → t ≤ n → n ≤ t + m → s + (t + m) ≤ length list → a + (t + m) ≤ length other
-    → write_at (write_at list (s + t) (slice_range other (a + t) (a + t + m))) s (slice_range other a (a + n)) ≡ write_at list s (slice_range other a (a + (t + m)))
-unfolding write_at
-over-back list other s a t n m meet short fits inside = same_lists _ _ (search (rules, places)) (λ k d below. grind (arith, places))
-
 -- ---- words of bytes
 
 -- the 64 bits from an index of a byte on, by the word that begins with the byte, and by the one behind the byte
@@ -54,8 +39,6 @@ pub word-behind : (at : ℕ → ℕ → ℕ) (xs : List ℕ) (e skip : ℕ) (wor
     → drop skip (list_in 8 at xs (elements_window 8 e 8)) ++ take skip word ≡ list_in 8 at xs (elements_window_from 8 e skip 8)
 unfolding window_of
 word-behind at xs e skip word has some below long held =
-    let start = has.within.start in
-    let end = has.within.len in
     let whole = length-memory_bits 8 at xs in
     let place : (e + 8) * 8 ≡ e * 8 + 64 = omega arith in
     let range = rw place at (element-range 8 at xs (e + 8) (omega arith)) in
@@ -65,8 +48,6 @@ word-before : (at : ℕ → ℕ → ℕ) (xs : List ℕ) (e skip : ℕ) (word : 
     → drop (56 + skip) word ++ take (56 + skip) (list_in 8 at xs (elements_window 8 (e + 1) 8)) ≡ list_in 8 at xs (elements_window_from 8 e skip 8)
 unfolding window_of
 word-before at xs e skip word has some below long held =
-    let start = has.within.start in
-    let end = has.within.len in
     let whole = length-memory_bits 8 at xs in
     let place : (e + 1) * 8 ≡ e * 8 + 8 = omega arith in
     let range = element-range 8 at xs e (omega arith) in
@@ -76,48 +57,21 @@ word-before at xs e skip word has some below long held =
 word-byte : (at : ℕ → ℕ → ℕ) (xs : List ℕ) (e i : ℕ) → i < 8 → HasWindow 8 xs (elements_window 8 e 8)
     → slice_range (list_in 8 at xs (elements_window 8 e 8)) (i * 8) (i * 8 + 8) ≡ element_bits 8 at (slice_index xs (e + i))
 word-byte at xs e i below has =
-    let start = has.within.start in
-    let end = has.within.len in
     let place : e * 8 + i * 8 ≡ (e + i) * 8 = omega arith in
     let len : i * 8 + 8 - i * 8 ≡ 8 = omega arith in
     sym (list-range 8 at xs (elements_window 8 e 8) (i * 8) (i * 8 + 8) has (omega arith) (omega arith))
     ∙ rw (place, len) (list-whole 8 at xs (e + i) (omega arith))
 
 -- a word of the bytes that are read lies in the memory
-pub word-window : (old : List ℕ) (first source skip count e : ℕ) → HasSkippedElements 8 old old first source skip count → source ≤ e → e + 8 ≤ source + count + 1 → HasWindow 8 old (elements_window 8 e 8)
+word-window : (old : List ℕ) (first source skip count e : ℕ) → HasSkippedElements 8 old old first source skip count → source ≤ e → e + 8 ≤ source + count + 1 → HasWindow 8 old (elements_window 8 e 8)
 word-window old first source skip count e has low high =
-    let start = has.span.beside.within.start in
-    let end = has.span.beside.within.len in
-    let some = has.inside in
     record { fits = has.span.window.fits; within = record { start = omega arith; len = omega arith } }
-
--- the 64 bits from an index of the byte e of the stretch on do; the word that is stored there; and the one that is read then
-pub skipped-window : (old : List ℕ) (first source skip count e : ℕ) → HasSkippedElements 8 old old first source skip count → e + 8 ≤ count → HasWindow 8 old (elements_window_from 8 (source + e) skip 8)
-skipped-window old first source skip count e has fits = HasWindow-part 8 old _ _ has.span.beside (omega arith) (omega arith)
-
-pub word-stored_window : (old : List ℕ) (first source skip count e : ℕ) → HasSkippedElements 8 old old first source skip count → e + 8 ≤ count → HasWindow 8 old (elements_window 8 (first + e) 8)
-word-stored_window old first source skip count e has fits = HasWindow-part 8 old _ _ has.span.window (omega arith) (omega arith)
-
-pub word-next_window : (old : List ℕ) (first source skip count e ahead : ℕ) → HasSkippedElements 8 old old first source skip count → e + 8 ≤ count → ahead ≤ 1 → HasWindow 8 old (elements_window 8 (source + e + ahead) 8)
-word-next_window old first source skip count e ahead has fits one = word-window old first source skip count (source + e + ahead) has (omega arith) (omega arith)
-
-pub ahead-word : (b : ℕ) (xs : List ℕ) (first skip count e ahead : ℕ) → IsWidth b → HasWindow b xs (elements_window_from b first skip count) → 0 < skip → e + 8 ≤ count → ahead ≤ 1 → first + e + ahead < 2 ^ 64
-ahead-word b xs first skip count e ahead width has some fits one =
-    let here = from-inside b xs xs first skip count (e + ahead) has some (omega arith) refl in
-    fits-word b (first + e + ahead) xs (elements_window_from b first skip count) width has (omega arith)
-
--- a constant of the code says which
-pub is_later : (n : ℕ) → (n ≡ 0 → ⊥) → not (nat_eq n 0) ≡ true
-is_later n some = grind (arith, nat_tests)
-
-pub is_earlier : (n : ℕ) → n ≡ 0 → not (nat_eq n 0) ≡ false
-is_earlier n none = rw none refl
 
 -- ---- words of bytes moved from the first one on, or `later` from the last one back
 
 -- the place of the word after which m bytes of n are moved; where the word that is read then begins; and the index in a word of the byte that is carried
 abbrev pub word_place : Bool → ℕ → ℕ → ℕ
-word_place later m n = if later then n - m else m - 8
+word_place later m n = part_place later 8 m n
 
 abbrev pub next_place : Bool → ℕ → ℕ → ℕ
 next_place later m n = word_place later m n + (if later then 0 else 1)
@@ -165,45 +119,6 @@ word-joined true at xs first source skip count k last next pair has fits carried
     rw (is, rw here at read, none)
     (word-behind at xs (source + (count - (k + 8))) skip _ (HasWindow-part 8 xs _ _ has.span.beside (omega arith) (omega arith)) has.inside has.bound (length-element_bits 64 at last) (rw behind at carried))
 
--- m bytes are moved after a word that may lie over some of the k that were
-pub CopiesSome-word : (later : Bool) (at : ℕ → ℕ → ℕ) (old mid new : List ℕ) (first source skip count k m : ℕ) (list : List Bool) → HasSkippedElements 8 old old first source skip count → k ≤ m → m ≤ k + 8 → 8 ≤ m → m ≤ count
-    → CopiesSome later 8 at old mid first source skip count k → Writes 8 at mid new (elements_window 8 (first + word_place later m count) 8) list → list ≡ list_in 8 at old (elements_window_from 8 (source + word_place later m count) skip 8)
-    → CopiesSome later 8 at old new first source skip count m
-unfolding window_of
-CopiesSome-word false at old mid new first source skip count k m list has more meet some fits before after is =
-    let start = has.span.window.within.start in
-    let end = has.span.window.within.len in
-    let other_start = has.span.beside.within.start in
-    let other_end = has.span.beside.within.len in
-    let whole = length-memory_bits 8 at old in
-    let bits = memory_bits 8 at old in
-    let place : (first + (m - 8)) * 8 ≡ (first + 0) * 8 + (m - 8) * 8 = omega arith in
-    let other_place : (source + (m - 8)) * 8 + skip ≡ (source + 0) * 8 + skip + (m - 8) * 8 = omega arith in
-    let len : m * 8 ≡ (m - 8) * 8 + 64 = omega arith in
-    let made = rw other_place at is in
-    record {
-      bits = after.bits ∙ ap (λ (l : List Bool). write_at l ((first + (m - 8)) * 8) list) before.bits
-          ∙ rw (made, place, len) (over-next bits bits ((first + 0) * 8) ((source + 0) * 8 + skip) ((m - 8) * 8) (k * 8) 64 (omega arith) (omega arith) (omega arith) (omega arith));
-      long = length-list 8 at old (elements_window_from 8 (source + 0) skip m) (HasWindow-part 8 old _ _ has.span.beside (omega arith) (omega arith));
-      elements = after.elements ∙ before.elements;
-    }
-CopiesSome-word true at old mid new first source skip count k m list has more meet some fits before after is =
-    let start = has.span.window.within.start in
-    let end = has.span.window.within.len in
-    let other_start = has.span.beside.within.start in
-    let other_end = has.span.beside.within.len in
-    let whole = length-memory_bits 8 at old in
-    let bits = memory_bits 8 at old in
-    let place : (first + (count - k)) * 8 ≡ (first + (count - m)) * 8 + (m - k) * 8 = omega arith in
-    let other_place : (source + (count - k)) * 8 + skip ≡ (source + (count - m)) * 8 + skip + (m - k) * 8 = omega arith in
-    let len : m * 8 ≡ (m - k) * 8 + k * 8 = omega arith in
-    record {
-      bits = after.bits ∙ ap (λ (l : List Bool). write_at l ((first + (count - m)) * 8) list) before.bits
-          ∙ rw (is, place, other_place, len) (over-back bits bits ((first + (count - m)) * 8) ((source + (count - m)) * 8 + skip) ((m - k) * 8) 64 (k * 8) (omega arith) (omega arith) (omega arith) (omega arith));
-      long = length-list 8 at old (elements_window_from 8 (source + (count - m)) skip m) (HasWindow-part 8 old _ _ has.span.beside (omega arith) (omega arith));
-      elements = after.elements ∙ before.elements;
-    }
-
 moved_all : (later : Bool) (n : ℕ) → moved_place later n n ≡ 0
 moved_all false n = refl
 moved_all true n = omega arith
@@ -218,14 +133,6 @@ CopiesSome-all later at old new first source skip count moved =
 
 -- ---- places of elements
 
-pub nth-inside : (later : Bool) (k n : ℕ) → k < n → nth_place later k n < n
-nth-inside false k n more = more
-nth-inside true k n more = omega arith
-
 pub waiting-below : (later : Bool) (k n : ℕ) → k ≤ n → waiting_place later k n ≤ n
 waiting-below false k n most = most
 waiting-below true k n most = omega arith
-
--- elements from an element's first bit on are whole ones
-pub source-whole : (b : ℕ) (xs : List ℕ) (source count : ℕ) → HasWindow b xs (elements_window_from b source 0 count) → HasWindow b xs (elements_window b source count)
-source-whole b xs source count has = HasWindow-part b xs _ _ has (omega arith) (omega arith)

@@ -1,21 +1,20 @@
 //! Bits moved to another place of the same memory. Whole elements are moved from the end at which none
 //! is written over before it is read: the last ones first where `LATER`, which says that the place
 //! begins no earlier, else the first ones first, and it begins no later.
-ghost use Rattle.std.specs.Prelude.{if◌then◌else◌, ◌≡◌, ◌+◌, ◌*◌, ◌%◌, ◌<◌, ◌≤◌, slice_index, take};
-ghost use Rattle.bitvec_base.specs.Memory.{HasWindow, Writes, element_bits, list_in};
+ghost use Rattle.std.specs.Prelude.{if◌then◌else◌, ◌≡◌, ◌+◌, ◌*◌, ◌%◌, ◌<◌, ◌≤◌, slice_index};
 ghost use Rattle.bitvec_base.specs.Spans.{HasSpan};
-ghost use Rattle.bitvec_cells.specs.Access.{Costs, CostsAtMost, OnlyReads};
+ghost use Rattle.bitvec_cells.specs.Access.{Costs, CostsAtMost};
 ghost use Rattle.bitvec_cells.specs.Cost.{touched_count};
 ghost use Rattle.bitvec_words.specs.Elements.{elements_window, elements_window_from};
 ghost use Rattle.bitvec_words.specs.Moves.{Copies, CopiesElements, HasSkippedElements, IsToward, late_words, nth_place, waiting_place};
 
 use crate::moving_words::{goes_by_words, shift_words};
-use bitvec_base::{BitOrder, Window, first_part};
+use crate::{head_of, width};
+use bitvec_base::{BitOrder, Window};
 use bitvec_cells::{Cells, CellsRead};
 use bitvec_store::BitStore;
 use bitvec_words::{
-    Carried, Lanes, MANY_BITS, Stretch, Whole, WordOrder, at_known_skip, load_element, store_part,
-    toward_end,
+    Carried, Lanes, MANY_BITS, Stretch, Whole, WordOrder, at_known_skip, load_short, store_short,
 };
 
 /// Moves the bits of a window to another of the same length. Condition: both lie in the memory, and
@@ -34,45 +33,16 @@ pub(crate) fn move_to<O: WordOrder, C: Cells, const LATER: bool>(
     ensures cost { let late = late_words C.Elem.BITS to.len in
         CostsAtMost C.CellsRead cells.old cells.new (touched_count C.Elem.BITS from.start from.len + 4 + late) (touched_count C.Elem.BITS to.start to.len + late) }
 {
-    let bits = C::Elem::BITS as usize;
-    let head = first_part(bits, to).len();
+    let bits = width::<C::Elem>();
+    let (_, head) = head_of::<C::Elem>(to);
     let (rest, behind) = (to.after(head), from.after(head));
     let moved = Stretch::of(bits, rest, behind);
     let passed = moved.count * bits;
-    let front = load_edge::<O, C>(cells, from.until(from.len - head));
-    let back = load_edge::<O, C>(cells, behind.after(passed));
+    let front = load_short::<O, C>(cells, from.until(from.len - head));
+    let back = load_short::<O, C>(cells, behind.after(passed));
     move_elements::<O, C, LATER>(cells, moved);
-    store_edge::<O, C>(cells, to.until(rest.len), front);
-    store_edge::<O, C>(cells, rest.after(passed), back);
-}
-
-/// An element that begins with the bits of a window of at most an element's width, if it has any. It
-/// loads each element that the window touches once.
-fn load_edge<O: WordOrder, C: CellsRead>(cells: &mut C, window: Window) -> C::Elem
-    requires window { HasWindow C.Elem.BITS (C.numbers cells.old) window }
-    requires bound { window.len ≤ C.Elem.BITS }
-    ensures value { take window.len (element_bits C.Elem.BITS O.at (C.Elem.value result)) ≡ list_in C.Elem.BITS O.at (C.numbers cells.old) window }
-    ensures reads { OnlyReads C.CellsRead cells.old cells.new (touched_count C.Elem.BITS window.start window.len) }
-{
-    if window.len == 0 {
-        return C::Elem::ZERO;
-    }
-    load_element::<O, C>(cells, window).0
-}
-
-/// Stores the first bits of an element in a window that lies in one element, or is empty. It loads that
-/// element unless it is stored whole.
-fn store_edge<O: WordOrder, C: Cells>(cells: &mut C, window: Window, element: C::Elem)
-    requires window { HasWindow C.Elem.BITS (C.numbers cells.old) window }
-    requires one { window.start % C.Elem.BITS + window.len ≤ C.Elem.BITS }
-    ensures writes { Writes C.Elem.BITS O.at (C.numbers cells.old) (C.numbers cells.new) window (take window.len (element_bits C.Elem.BITS O.at (C.Elem.value element))) }
-    ensures cost { CostsAtMost C.CellsRead cells.old cells.new 1 (touched_count C.Elem.BITS window.start window.len) }
-{
-    if window.len == 0 {
-        return;
-    }
-    let part = first_part(C::Elem::BITS as usize, window);
-    store_part::<O, C>(cells, part, toward_end::<O, C::Elem>(element, part.from));
+    store_short::<O, C>(cells, to.until(rest.len), front);
+    store_short::<O, C>(cells, rest.after(passed), back);
 }
 
 /// Moves a stretch of one memory to its whole elements.

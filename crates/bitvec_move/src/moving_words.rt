@@ -1,7 +1,7 @@
 //! Bytes moved within one memory by words of 64 bits, each carried to the next pass. One word more makes up for
 //! what no whole number of words covers: it ends or begins where they do, and so overlaps another. It is loaded
 //! before any word is stored, and stored last. The last words go first where `LATER`.
-ghost use Rattle.std.specs.Prelude.{◌≡◌, ◌+◌, ◌<◌, ◌≤◌, ◌↔◌, IsTrue, slice_range};
+ghost use Rattle.std.specs.Prelude.{if◌then◌else◌, ◌≡◌, ◌+◌, ◌-◌, ◌<◌, ◌≤◌, ◌↔◌, IsTrue, slice_range};
 ghost use Rattle.bitvec_base.specs.Memory.{HasWindow, element_bits, list_in};
 ghost use Rattle.bitvec_cells.specs.Access.{CostsAtMost, OnlyReads};
 ghost use Rattle.bitvec_words.specs.Elements.{elements_window_from};
@@ -31,14 +31,13 @@ pub(crate) fn shift_words<O: WordOrder, C: Cells, const LATER: bool>(cells: &mut
     ensures writes { CopiesElements C.Elem.BITS O.at (C.numbers cells.old) (C.numbers cells.new) (C.numbers cells.old) moved.first moved.source moved.skip moved.count }
     ensures cost { CostsAtMost C.CellsRead cells.old cells.new (moved.count + 10) (moved.count + 8) }
 {
-    let rest = moved.count - 8;
-    let edge = if LATER { 0 } else { rest };
-    let (to, ahead) = if LATER { (0, 0) } else { (WORD_BITS - 8, 1) };
+    let edge = word_place::<LATER>(moved.count, moved.count);
+    let (to, ahead) = carried_place::<LATER>();
     let held = load_skipped::<O, C>(cells, moved.source + edge, moved.skip);
     let from = read_place::<LATER>(0, moved.count);
     let mut last = placed::<O, C::Elem>(cells.load(moved.source + from), to);
     for step in 0..moved.count / 8 {
-        let place = if LATER { rest - step * 8 } else { step * 8 };
+        let place = word_place::<LATER>(step * 8 + 8, moved.count);
         let next = load_elements::<O, C>(cells, moved.source + place + ahead);
         let (low, high) = in_order::<u64, LATER>(last, next);
         let word = joined::<O, u64>(low, high, to + moved.skip);
@@ -46,6 +45,25 @@ pub(crate) fn shift_words<O: WordOrder, C: Cells, const LATER: bool>(cells: &mut
         last = next;
     }
     store_elements::<O, C>(cells, moved.first + edge, held);
+}
+
+/// Where the word begins after which so many bytes of `count` are moved.
+fn word_place<const LATER: bool>(done: usize, count: usize) -> usize
+    requires word { 8 ≤ done }
+    requires most { done ≤ count }
+    ensures place { result ≡ (if LATER then count - done else done - 8) }
+    ensures fits { result + 8 ≤ count }
+{
+    if LATER { count - done } else { done - 8 }
+}
+
+/// The index in a word of the byte that is carried, and how far behind the word that is stored the next one is read.
+fn carried_place<const LATER: bool>() -> (usize, usize)
+    ensures to { result.0 ≡ (if LATER then 0 else 56) }
+    ensures ahead { result.1 ≡ (if LATER then 0 else 1) }
+    ensures near { result.1 ≤ 1 }
+{
+    if LATER { (0, 0) } else { (WORD_BITS - 8, 1) }
 }
 
 /// The 64 bits from the index `skip` of a byte on. Condition: `skip` is above 0 and below 8, and the bits lie in a

@@ -7,6 +7,7 @@ ghost use Rattle.bitvec_words.specs.Moves.{Swaps};
 
 use crate::swapping_equal::swap_equal;
 use crate::swapping_shifted::swap_shifted;
+use crate::width;
 use bitvec_base::{BitOrder, Window};
 use bitvec_cells::{Cells, CellsRead};
 use bitvec_store::BitStore;
@@ -30,7 +31,7 @@ pub fn swap<O: WordOrder, C: Cells, D: Cells + CellsRead<Elem = C::Elem>>(
     if left_window.len == 0 {
         return;
     }
-    let bits = C::Elem::BITS as usize;
+    let bits = width::<C::Elem>();
     if left_window.start % bits == right_window.start % bits {
         swap_equal::<O, C, D>(left, left_window, right, right_window);
     } else {

@@ -7,7 +7,8 @@ ghost use Rattle.bitvec_cells.specs.Cost.{touched_count};
 ghost use Rattle.bitvec_words.specs.Elements.{elements_window};
 ghost use Rattle.bitvec_words.specs.Moves.{Swaps};
 
-use bitvec_base::{BitOrder, Part, Window, first_part, tail_part, whole_elements};
+use crate::{head_of, width};
+use bitvec_base::{BitOrder, Part, Window, tail_part, whole_elements};
 use bitvec_cells::{Cells, CellsRead};
 use bitvec_store::BitStore;
 use bitvec_words::merged;
@@ -28,14 +29,13 @@ pub fn swap_equal<O: BitOrder, C: Cells, D: Cells + CellsRead<Elem = C::Elem>>(
     ensures cost { let each = touched_count C.Elem.BITS left_window.start left_window.len in Costs C.CellsRead left.old left.new each each }
     ensures right_cost { let each = touched_count C.Elem.BITS right_window.start right_window.len in Costs D.CellsRead right.old right.new each each }
 {
-    let bits = C::Elem::BITS as usize;
+    let bits = width::<C::Elem>();
     if left_window.len > bits && left_window.start % bits == 0 {
         swap_aligned::<O, C, D>(left, left_window, right, right_window);
         return;
     }
-    let head = first_part(bits, left_window);
+    let (head, passed) = head_of::<C::Elem>(left_window);
     swap_part::<O, C, D>(left, head, right, right_window.start / bits);
-    let passed = head.len();
     if passed == left_window.len {
         return;
     }
@@ -58,7 +58,7 @@ fn swap_aligned<O: BitOrder, C: Cells, D: Cells + CellsRead<Elem = C::Elem>>(
     ensures cost { let each = touched_count C.Elem.BITS left_window.start left_window.len in Costs C.CellsRead left.old left.new each each }
     ensures right_cost { let each = touched_count C.Elem.BITS right_window.start right_window.len in Costs D.CellsRead right.old right.new each each }
 {
-    let bits = C::Elem::BITS as usize;
+    let bits = width::<C::Elem>();
     let (first, count) = whole_elements(bits, left_window);
     let source = right_window.start / bits;
     swap_whole::<O, C, D>(left, first, right, source, count);

@@ -7,7 +7,8 @@ ghost use Rattle.bitvec_cells.specs.Access.{Costs};
 ghost use Rattle.bitvec_cells.specs.Cost.{touched_count};
 ghost use Rattle.bitvec_words.specs.Moves.{HasPartSpan, HasSkippedElements, HasSkippedSpan, Swaps, SwapsElements};
 
-use bitvec_base::{BitOrder, Part, Window, first_part, tail_part};
+use crate::{head_of, width};
+use bitvec_base::{BitOrder, Part, Window, tail_part};
 use bitvec_cells::{Cells, CellsRead};
 use bitvec_store::BitStore;
 use bitvec_words::{
@@ -30,9 +31,8 @@ pub(crate) fn swap_shifted<O: WordOrder, C: Cells, D: Cells + CellsRead<Elem = C
     ensures cost { let each = touched_count C.Elem.BITS left_window.start left_window.len in Costs C.CellsRead left.old left.new each each }
     ensures right_cost { let each = touched_count C.Elem.BITS right_window.start right_window.len in Costs D.CellsRead right.old right.new each each }
 {
-    let bits = C::Elem::BITS as usize;
-    let head = first_part(bits, left_window);
-    let passed = head.len();
+    let bits = width::<C::Elem>();
+    let (head, passed) = head_of::<C::Elem>(left_window);
     let waiting = right.load(right_window.start / bits);
     let met = right_window.until(right_window.len - passed);
     let last = swap_waiting::<O, C, D>(left, head, right, met, waiting);
@@ -62,7 +62,7 @@ fn swap_rest<O: WordOrder, C: Cells, D: Cells + CellsRead<Elem = C::Elem>>(
     ensures cost { let each = touched_count C.Elem.BITS left_window.start left_window.len in Costs C.CellsRead left.old left.new each each }
     ensures right_cost { let each = touched_count C.Elem.BITS right_window.start right_window.len in Costs D.CellsRead right.old right.new (each - 1) each }
 {
-    let bits = C::Elem::BITS as usize;
+    let bits = width::<C::Elem>();
     let stretch = Stretch::of(bits, left_window, right_window);
     let last = swap_across::<O, C, D>(left, right, stretch, waiting);
     let tail = tail_part(bits, left_window);
@@ -153,7 +153,7 @@ fn swap_waiting<O: WordOrder, C: Cells, D: Cells + CellsRead<Elem = C::Elem>>(
     ensures cost { Costs C.CellsRead left.old left.new 1 1 }
     ensures right_cost { let more = touched_count C.Elem.BITS from.start from.len - 1 in Costs D.CellsRead right.old right.new more more }
 {
-    let bits = C::Elem::BITS as usize;
+    let bits = width::<C::Elem>();
     let (index, skip) = (from.start / bits, from.start % bits);
     let element = left.load(part.element);
     let moved = toward_start::<O, C::Elem>(element, part.from);

@@ -30,8 +30,6 @@ pub HasWindow-elements : (b : ℕ) (xs : List ℕ) (window : Window) (count : �
 HasWindow-elements b xs window count has some last =
     let first : ℕ = window.start / b in
     let place = div-add-mod' window.start b in
-    let start = has.within.start in
-    let len = has.within.len in
     let split : (first + (count - 1)) * b ≡ first * b + (count - 1) * b = omega arith in
     let inside = element_of b (first + (count - 1)) 0 (length xs) (omega arith) in
     let room = mul-le-mul_left b (let e : first + count ≤ length xs = omega arith in e) in
@@ -72,7 +70,6 @@ number-next true b at xs first count v w some has before next =
 number-next false b at xs first count v w some has before next =
     let whole = list-element b at xs first (count + 1) count some has (omega arith) in
     let start = has.within.start in
-    let len = has.within.len in
     let long = length-list b at xs (elements_window b first count) (record { fits = has.fits; within = record { start = start; len = omega arith } }) in
     rw (before, next) (sym (sym (ap (segment_number false) whole) ∙ append-lowest (list_in b at xs (elements_window b first count)) (element_bits b at (slice_index xs (first + count))) ∙ rw long refl))
 

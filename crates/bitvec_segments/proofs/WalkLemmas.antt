@@ -2,9 +2,8 @@
 use Rattle.std.specs.Prelude.{◌≡◌, ℕ, ◌+◌, ◌-◌, ◌*◌, ◌/◌, ◌%◌, ◌^◌, ◌<◌, ◌≤◌, Bool, true, false, List, ◌++◌, take, drop, min, refl}
 use Rattle.std.proofs.Common.{arith, sym, ◌∙◌, ap, ⊎_elim, eqb}
 use Rattle.std.proofs.lemmas.Bool.{cases_lt, cond-true, eq-eqb}
-use Rattle.std.proofs.lemmas.Grind.{common_steps}
 use Rattle.std.proofs.lemmas.Nat.{div-add-mod', div-mul-add, mod-mul-add, mod_below, pow-add, shr-shr}
-use Rattle.std.proofs.Math.Nat.{mod-eq_of_lt, mul-le-mul_left}
+use Rattle.std.proofs.Math.Nat.{mod-eq_of_lt}
 use Rattle.std.proofs.Math.Pow.{pow_mono}
 use Rattle.bitvec_base.specs.declared.part.Part.{Part}
 use Rattle.bitvec_base.specs.declared.window.Window.{Window}
@@ -15,8 +14,7 @@ use Rattle.bitvec_base.specs.Window.{window_after, window_range}
 use Rattle.bitvec_base.specs.WritesLaws.{HasWindow-kept, Writes-empty, Writes-is, length-list, list-after, list-behind, list-range}
 use Rattle.bitvec_store.specs.Width.{IsWidth}
 use Rattle.bitvec_store.specs.WidthLaws.{width_some}
-use Rattle.bitvec_cells.specs.Cost.{fill_loads, part_loads, touched_count}
-use Rattle.bitvec_cells.specs.Walk.{Walked, edge_loads}
+use Rattle.bitvec_cells.specs.Cost.{part_loads, touched_count}
 use Rattle.bitvec_cells.specs.WalkLaws.{Walked-start, first-len, first-place, touched-none}
 use Rattle.bitvec_words.specs.FieldLaws.{Writes-head}
 use Rattle.bitvec_words.specs.PartWalkLaws.{HasPart-first}
@@ -148,9 +146,6 @@ Loaded-all big high b at xs window rest number none is =
 abbrev pub Left : Bool → Bool → ℕ → (ℕ → ℕ → ℕ) → List ℕ → List ℕ → Window → Window → ℕ → Type 0
 Left big high b at old now window rest v = (new : List ℕ) → StoresIn big high b at now new rest (v / 2 ^ lower_bits big (window.len - rest.len) 0) → StoresIn big high b at old new window v
 
-pub Left-start : (big high : Bool) (b : ℕ) (at : ℕ → ℕ → ℕ) (old : List ℕ) (window : Window) (v : ℕ) → Left big high b at old old window window v
-Left-start big high b at old window v = let none : window.len - window.len ≡ 0 = omega arith in rw (none, unmoved big v) (λ new done. done)
-
 -- of a number without the bits of the d bits before: the bits of a part with e bits behind it, and those behind t bits
 moved-part : (big : Bool) (v d e : ℕ) → v / 2 ^ lower_bits big d 0 / 2 ^ lower_bits big 0 e ≡ v / 2 ^ lower_bits big d e
 moved-part true v d e = ap (λ (n : ℕ). n / 2 ^ e) (unmoved true v)
@@ -235,15 +230,3 @@ Begins-next b rest t element left some step is count = λ more.
 pub none-left : (b s n left : ℕ) → left ≡ touched_count b s n → left ≤ 0 → n ≡ 0
 none-left b s n left is none =
     ⊎_elim (λ (few : n < 1). omega arith) (λ (some : 1 ≤ n). let first = touched-first b s n some in absurd (omega arith)) (cases_lt n 1)
-
-pub edges-all : (b : ℕ) (window rest : Window) → rest.len ≡ 0 → Walked b window rest → edge_loads window rest ≤ fill_loads window.len
-edges-all b window rest none walk =
-    let start = walk.start in
-    let end = walk.end in
-    grind (arith, common_steps)
-
-pub element-below : (b s : ℕ) → 0 < b → s / b ≤ s
-element-below b s some =
-    let place = div-add-mod' s b in
-    let most = mul-le-mul_left (s / b) some in
-    omega arith

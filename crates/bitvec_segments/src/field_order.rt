@@ -70,6 +70,8 @@ pub trait FieldOrder: WordOrder {
     }
 }
 
+// Both impls write the bodies that the trait has: one that is taken over is compiled as a call, without the trait's mark.
+
 impl FieldOrder for Lsb0 {
     #[inline(always)]
     fn load_le<C: CellsRead>(cells: &mut C, window: Window) -> u128 {

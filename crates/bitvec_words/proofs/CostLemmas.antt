@@ -25,7 +25,6 @@ module _ {E C : Type 0} {access : Access C E} {old : C} where
   pub reads-sum : {mid new : C} {m n all : ℕ} → OnlyReads access old mid m → OnlyReads access mid new n → all ≡ m + n → OnlyReads access old new all
   reads-sum first second sum =
       let loads = first.loads in
-      let more = second.loads in
       record { numbers = second.numbers ∙ first.numbers; borrow = second.borrow ∙ first.borrow; loads = omega arith; stores = second.stores ∙ first.stores }
 
   pub reads-four : {one two three new : C} {n all : ℕ} → OnlyReads access old one n → OnlyReads access one two n → OnlyReads access two three n → OnlyReads access three new n → all ≡ 4 * n → OnlyReads access old new all
@@ -37,7 +36,6 @@ module _ {E C : Type 0} {access : Access C E} {old : C} where
   pub reads-both : {mid new : C} {m n all : ℕ} → OnlyReadsAtMost access old mid m → OnlyReadsAtMost access mid new n → m + n ≤ all → OnlyReadsAtMost access old new all
   reads-both first second few =
       let loads = first.loads in
-      let more = second.loads in
       record { numbers = second.numbers ∙ first.numbers; borrow = second.borrow ∙ first.borrow; loads = omega arith; stores = second.stores ∙ first.stores }
 
   -- ---- loads and stores
@@ -52,14 +50,10 @@ module _ {E C : Type 0} {access : Access C E} {old : C} where
   costs-sum first second loaded stored =
       let loads = first.loads in
       let stores = first.stores in
-      let more = second.loads in
-      let others = second.stores in
       record { borrow = second.borrow ∙ first.borrow; loads = omega arith; stores = omega arith }
 
   pub costs-both : {mid new : C} {l s k t m n : ℕ} → Costs access old mid l s → CostsAtMost access mid new k t → l + k ≤ m → n ≡ s + t → CostsAtMost access old new m n
   costs-both first second loaded stored =
       let loads = first.loads in
       let stores = first.stores in
-      let more = second.loads in
-      let others = second.stores in
       record { borrow = second.borrow ∙ first.borrow; loads = omega arith; stores = omega arith }

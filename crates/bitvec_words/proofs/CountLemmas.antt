@@ -1,6 +1,5 @@
 -- The ones of a window by two parts of it, side by side, and of whole elements one after the other.
-use Rattle.std.specs.Prelude.{◌≡◌, ℕ, ◌+◌, ◌-◌, ◌*◌, ◌/◌, ◌%◌, ◌^◌, ◌<◌, ◌≤◌, ◌==◌, zero, suc, Bool, List, count_by, count_ones, slice_index, refl}
-use Rattle.std.specs.Int.{bit_at}
+use Rattle.std.specs.Prelude.{◌≡◌, ℕ, ◌+◌, ◌-◌, ◌*◌, ◌/◌, ◌%◌, ◌^◌, ◌<◌, ◌≤◌, zero, suc, Bool, List, count_by, count_ones, slice_index, refl}
 use Rattle.std.proofs.Common.{arith, sym, ◌∙◌, ap}
 use Rattle.std.proofs.Math.Nat.{mod-lt, add-mul, mul-le-mul_left, mul_assoc}
 use Rattle.std.proofs.lemmas.List.{same_lists}
@@ -13,7 +12,6 @@ use Rattle.bitvec_base.specs.MemoryLaws.{get-element_bits, length-element_bits}
 use Rattle.bitvec_base.specs.Order.{Permutes}
 use Rattle.bitvec_base.specs.WritesLaws.{length-list}
 use Rattle.bitvec_store.specs.Width.{IsWidth}
-use Rattle.bitvec_store.specs.WidthLaws.{at_each_width}
 use Rattle.bitvec_cells.specs.ElementLaws.{element-count}
 use Rattle.bitvec_words.specs.Elements.{elements_window}
 use Rattle.bitvec_words.specs.FieldLaws.{list-element}
@@ -26,11 +24,7 @@ pub count-within : (b : ℕ) (at : ℕ → ℕ → ℕ) (xs : List ℕ) (window 
 count-within b at xs window ones has is = ones_within (list_in b at xs window) window.len ones (sym (length-list b at xs window has)) is
 
 pub count-few : (b : ℕ) (at : ℕ → ℕ → ℕ) (xs : List ℕ) (window : Window) (ones : ℕ) → HasWindow b xs window → ones ≡ count_by (λ (bit : Bool). bit) (list_in b at xs window) → ones < 2 ^ 64
-count-few b at xs window ones has is =
-    let most = count-within b at xs window ones has is in
-    let fits = has.fits in
-    let len = has.within.len in
-    omega arith
+count-few b at xs window ones has is = omega (arith, count-within b at xs window ones has is)
 
 -- one element more
 pub count-element : (b : ℕ) (at : ℕ → ℕ → ℕ) → Permutes b (at b) → (xs : List ℕ) (first count step v m n : ℕ) → 0 < b → HasWindow b xs (elements_window b first count) → step < count → v ≡ slice_index xs (first + step) → v < 2 ^ b
@@ -45,13 +39,7 @@ count-element b at p xs first count step v m n some has more is small before one
 -- the bits of an element are those of its number's lowest b
 element-low : (b : ℕ) (at : ℕ → ℕ → ℕ) → Permutes b (at b) → (v : ℕ) → element_bits b at v ≡ element_bits b at (v % 2 ^ b)
 element-low b at p v =
-    let old = length-element_bits b at v in
-    let new = length-element_bits b at (v % 2 ^ b) in
-    same_lists _ _ (omega arith) (λ k d inside.
-    let below : k < b = omega arith in
-    get-element_bits b at v k d below
-    ∙ ap (λ (c : ℕ). c == 1) (ap (λ (n : ℕ). bit_at n (at b k)) (sym (div-add-mod' v (2 ^ b))) ∙ bit_at_cat_low (v / 2 ^ b) b (v % 2 ^ b) (at b k) (p.below k below))
-    ∙ sym (get-element_bits b at (v % 2 ^ b) k d below))
+    same_lists _ _ (grind (arith, length-element_bits)) (λ k d inside. grind (arith, length-element_bits, get-element_bits, p.below k, bit_at_cat_low (v / 2 ^ b) b (v % 2 ^ b) (at b k), div-add-mod' v (2 ^ b)))
 
 element-ones : (b : ℕ) (at : ℕ → ℕ → ℕ) → Permutes b (at b) → (v : ℕ) → count_ones (v % 2 ^ b) ≡ count_by (λ (bit : Bool). bit) (element_bits b at v)
 element-ones b at p v =
@@ -113,14 +101,12 @@ module _ (b : ℕ) {xs : List ℕ} (first count : ℕ) (width : IsWidth b) (has 
       let order = mul-le-mul_left (4 * (64 / b)) more in
       let sum = fours in
       let parts = parted-words in
-      let most = parts.within in
       block-at b (4 * (64 / b)) first count step width has (omega arith)
 
   pub HasWindow-left : HasWindow b xs (elements_window b (first + count / (64 / b) / 4 * (4 * (64 / b))) (count / (64 / b) % 4 * (64 / b)))
   HasWindow-left =
       let sum = fours in
       let parts = parted-words in
-      let most = parts.within in
       HasWindow-elements b (λ e i. i) xs first count has (first + count / (64 / b) / 4 * (4 * (64 / b))) (count / (64 / b) % 4 * (64 / b)) (omega arith) (omega arith)
 
   pub count-fours : (m n : ℕ) → m ≡ count_by (λ (bit : Bool). bit) (list_in b (λ c i. i) xs (elements_window b first (count / (64 / b) / 4 * (4 * (64 / b)))))
@@ -128,7 +114,6 @@ module _ (b : ℕ) {xs : List ℕ} (first count : ℕ) (width : IsWidth b) (has 
       → m + n ≡ count_by (λ (bit : Bool). bit) (list_in b (λ c i. i) xs (elements_window b first (count / (64 / b) * (64 / b))))
   count-fours m n before left =
       let parts = parted-words in
-      let most = parts.within in
       count-parts (list_in b (λ c i. i) xs (elements_window b first (count / (64 / b) / 4 * (4 * (64 / b))))) (list_in b (λ c i. i) xs (elements_window b (first + count / (64 / b) / 4 * (4 * (64 / b))) (count / (64 / b) % 4 * (64 / b)))) _ m n
       (list-elements_join b (λ c i. i) xs first count has first (first + count / (64 / b) / 4 * (4 * (64 / b))) (count / (64 / b) / 4 * (4 * (64 / b))) (count / (64 / b) % 4 * (64 / b)) (count / (64 / b) * (64 / b)) (omega arith) (omega arith) refl fours) before left
 
@@ -138,6 +123,3 @@ pub count-left : {b : ℕ} {xs : List ℕ} {first count passed : ℕ} → Parted
     → m + n ≡ count_by (λ (bit : Bool). bit) (list_in b at xs (elements_window b first count))
 count-left {b} {xs} {first} {count} {passed} parts at p m n some words left =
     split-count parts.split at parts.all m n (words ∙ count-orders b (λ c i. i) at (itself b) p xs first passed some parts.front) left
-
-pub words-some : (b : ℕ) → IsWidth b → b ≤ 64 → 0 < 64 / b
-words-some b width = at_each_width (λ n. n ≤ 64 → 0 < 64 / n) (λ _. omega arith) (λ _. omega arith) (λ _. omega arith) (λ _. omega arith) (λ narrow. absurd (omega arith)) b width

@@ -1,9 +1,8 @@
 -- How each exchange of blocks reverses an element further, and what it is when blocks of one bit are exchanged.
-use Rattle.std.specs.Prelude.{◌≡◌, ℕ, ◌+◌, ◌-◌, ◌*◌, ◌/◌, ◌%◌, ◌^◌, ◌<◌, ◌≤◌, ◌==◌, zero, suc, bit_and, Bool, true, false, length, reverse, slice_index_or, refl}
+use Rattle.std.specs.Prelude.{◌≡◌, ℕ, ◌+◌, ◌-◌, ◌*◌, ◌/◌, ◌%◌, ◌^◌, ◌<◌, ◌≤◌, zero, suc, bit_and, Bool, reverse, refl}
 use Rattle.std.specs.Int.{bit_at}
-use Rattle.std.proofs.Common.{arith, sym, ◌∙◌, ap, subst, ⊎_elim}
+use Rattle.std.proofs.Common.{arith, sym, ◌∙◌, ap, subst}
 use Rattle.std.proofs.Math.Nat.{pow-suc}
-use Rattle.std.proofs.lemmas.Bool.{cases_eq, cases_lt}
 use Rattle.std.proofs.lemmas.List.{same_lists, get_or-reverse, length-reverse}
 use Rattle.std.proofs.lemmas.Nat.{mul-add-lt, pow_pos}
 use Rattle.std.proofs.lemmas.Nat.Bits.{bit_at_and, bit_at_or, bit_at_xor, bit_at-lt, bit_at_ones}
@@ -17,15 +16,11 @@ use Rattle.bitvec_words.specs.Exchanged.{exchanged_bits, halved_blocks, HasLower
 
 -- what holds of the even numbers and of the odd ones
 by_parity : (P : ℕ → Type 0) → ((a : ℕ) → P (2 * a)) → ((a : ℕ) → P (2 * a + 1)) → (k : ℕ) → P k
-by_parity P even odd k =
-    ⊎_elim
-    (λ (e : k % 2 ≡ 0). let whole : 2 * (k / 2) ≡ k = omega arith in subst P whole (even (k / 2)))
-    (λ other. let whole : 2 * (k / 2) + 1 ≡ k = omega arith in subst P whole (odd (k / 2)))
-    (cases_eq (k % 2) 0)
+by_parity P even odd k = grind (arith, even (k / 2), odd (k / 2))
 
 -- a place in a block lies in the element
 inside : (b half n k t : ℕ) → b ≡ n * (2 * half) → k < 2 * n → t < half → k * half + t < b
-inside b half n k t whole h low = let fits = mul-add-lt k half t (2 * n) h low in omega arith
+inside b half n k t whole h low = omega (arith, mul-add-lt k half t (2 * n) h low)
 
 -- the same place, by the blocks that are twice as long
 in_first : (a half t : ℕ) → 2 * a * half + t ≡ a * (2 * half) + t
@@ -38,17 +33,11 @@ in_second a half t = omega arith
 
 halved_low : (b half lower p : ℕ) → p < b → p < half → bit_at (halved_blocks b half lower) p ≡ bit_at lower p
 unfolding halved_blocks
-halved_low b half lower p h low =
-    let apart = bit_at_xor lower ((lower * 2 ^ half) % 2 ^ b) p in
-    let none = bit_at_shl_left b lower half p h low in
-    let small = bit_at-lt lower p in
-    omega arith
+halved_low b half lower p h low = grind (arith, bit_at_xor, bit_at_shl_left b lower half p h low, bit_at-lt lower p)
 
 halved_high : (b half lower i : ℕ) → i + half < b → bit_at (halved_blocks b half lower) (i + half) ≡ (bit_at lower (i + half) + bit_at lower i) % 2
 unfolding halved_blocks
-halved_high b half lower i h =
-    bit_at_xor lower ((lower * 2 ^ half) % 2 ^ b) (i + half)
-    ∙ ap (λ (c : ℕ). (bit_at lower (i + half) + c) % 2) (bit_at_shl b lower half i h)
+halved_high b half lower i h = grind (arith, bit_at_xor, bit_at_shl b lower half i h)
 
 lower_even : (b half n lower : ℕ) → b ≡ n * (2 * half) → HasLower n (2 * half) lower → (t : ℕ) → t < half → (a : ℕ) → 2 * a < 2 * n → bit_at (halved_blocks b half lower) (2 * a * half + t) ≡ 1 - 2 * a % 2
 lower_even b half n lower whole has t low zero h =
@@ -67,12 +56,7 @@ lower_even b half n lower whole has t low (suc a) h =
 lower_odd : (b half n lower : ℕ) → b ≡ n * (2 * half) → HasLower n (2 * half) lower → (t : ℕ) → t < half → (a : ℕ) → 2 * a + 1 < 2 * n → bit_at (halved_blocks b half lower) ((2 * a + 1) * half + t) ≡ 1 - (2 * a + 1) % 2
 lower_odd b half n lower whole has t low a h =
     let fits = inside b half n (2 * a + 1) t whole h low in
-    let i : ℕ = 2 * a * half + t in
-    let next : (2 * a + 1) * half + t ≡ i + half = omega arith in
-    let here : bit_at lower (i + half) ≡ 1 - a % 2 = ap (bit_at lower) (sym next ∙ in_second a half t) ∙ has a (half + t) (omega arith) (omega arith) in
-    let before : bit_at lower i ≡ 1 - a % 2 = ap (bit_at lower) (in_first a half t) ∙ has a t (omega arith) (omega arith) in
-    let bit = halved_high b half lower i (omega arith) in
-    ap (bit_at (halved_blocks b half lower)) next ∙ bit ∙ omega arith
+    grind (arith, halved_high b half lower (2 * a * half + t), has a (half + t), has a t)
 
 lower_halved : (b half n lower : ℕ) → b ≡ n * (2 * half) → HasLower n (2 * half) lower → HasLower (2 * n) half (halved_blocks b half lower)
 lower_halved b half n lower whole has k t h low =
@@ -84,39 +68,15 @@ lower_halved b half n lower whole has k t h low =
 exchanged_lower : (b half lower v p : ℕ) → p < b → bit_at lower p ≡ 1 → ((i : ℕ) → p ≡ i + half → bit_at lower i ≡ 0) → bit_at (exchanged_bits b half lower v) p ≡ bit_at v (p + half)
 unfolding exchanged_bits
 exchanged_lower b half lower v p h here below =
-    let up = (bit_and v lower * 2 ^ half) % 2 ^ b in
-    let either = bit_at_or (bit_and (v / 2 ^ half) lower) up p in
-    let down = bit_at_and (v / 2 ^ half) lower p in
-    let moved = bit_at_shr v half p in
-    let small = bit_at-lt v (p + half) in
-    let none : bit_at up p ≡ 0 =
-    ⊎_elim
-    (λ (low : p < half). bit_at_shl_left b (bit_and v lower) half p h low)
-    (λ (high : half ≤ p).
-    let place : p ≡ p - half + half = omega arith in
-    let zero_there = below (p - half) place in
-    let met = bit_at_and v lower (p - half) in
-    ap (bit_at up) place ∙ bit_at_shl b (bit_and v lower) half (p - half) (omega arith) ∙ omega arith)
-    (cases_lt p half) in
-    omega arith
+    grind (arith, bit_at_or, bit_at_and, bit_at_shr v half p, bit_at-lt v (p + half), bit_at_shl_left b (bit_and v lower) half p h, bit_at_shl b (bit_and v lower) half (p - half), below (p - half))
 
 exchanged_upper : (b half lower v i : ℕ) → i + half < b → bit_at lower (i + half) ≡ 0 → bit_at lower i ≡ 1 → bit_at (exchanged_bits b half lower v) (i + half) ≡ bit_at v i
 unfolding exchanged_bits
-exchanged_upper b half lower v i h here below =
-    let up = (bit_and v lower * 2 ^ half) % 2 ^ b in
-    let either = bit_at_or (bit_and (v / 2 ^ half) lower) up (i + half) in
-    let down = bit_at_and (v / 2 ^ half) lower (i + half) in
-    let moved = bit_at_shl b (bit_and v lower) half i h in
-    let met = bit_at_and v lower i in
-    let small = bit_at-lt v i in
-    omega arith
+exchanged_upper b half lower v i h here below = grind (arith, bit_at_or, bit_at_and, bit_at_shl b (bit_and v lower) half i h, bit_at-lt v i)
 
 -- no block stands below the first one, and none that is exchanged below another
 none_below : (half n lower : ℕ) → HasLower (2 * n) half lower → (t : ℕ) → t < half → (a : ℕ) → 2 * a < 2 * n → (i : ℕ) → 2 * a * half + t ≡ i + half → bit_at lower i ≡ 0
-none_below half n lower has t low zero h i place = absurd (omega arith)
-none_below half n lower has t low (suc a) h i place =
-    let same : i ≡ (2 * a + 1) * half + t = omega arith in
-    ap (bit_at lower) same ∙ has (2 * a + 1) t (omega arith) low ∙ omega arith
+none_below half n lower has t low a h i place = grind (arith, has (2 * a - 1) t)
 
 reversed_even : (b half n lower now before : ℕ) → b ≡ n * (2 * half) → HasLower (2 * n) half lower → HasReversed n (2 * half) now before → (t : ℕ) → t < half → (a : ℕ) → 2 * a < 2 * n → bit_at (exchanged_bits b half lower now) (2 * a * half + t) ≡ bit_at before ((2 * n - 1 - 2 * a) * half + t)
 reversed_even b half n lower now before whole has other_way t low a h =
@@ -195,7 +155,6 @@ ReversesBlocks-next b size half lower now before exchange some is =
     let found = halves size exchange.halvings exchange.power some in
     let same : half ≡ 2 ^ found.0 = let e = found.1 in omega arith in
     let twice : size ≡ 2 * half = let e = found.1 in omega arith in
-    let fits = exchange.fits in
     let n = exchange.blocks in
     next b half found.0 n lower now before same (omega arith)
     (exchange.whole ∙ ap (λ (s : ℕ). n * s) twice)
@@ -206,7 +165,6 @@ ReversesBlocks-next b size half lower now before exchange some is =
 reversed_bits : (b size lower now before : ℕ) → ReversesBlocks b size lower now before → size ≤ 1 → (p : ℕ) → p < b → bit_at now p ≡ bit_at before (b - 1 - p)
 reversed_bits b size lower now before exchange last p h =
     let some = pow_pos exchange.halvings in
-    let power = exchange.power in
     let one : size ≡ 1 = omega arith in
     let n = exchange.blocks in
     let whole : b ≡ n = exchange.whole ∙ rw one (omega arith) in
@@ -216,23 +174,11 @@ reversed_bits b size lower now before exchange last p h =
 
 -- an order that runs through the element: the index k from the end is the bit k from the other end
 mirrored : (high : Bool) (b : ℕ) (at : ℕ → ℕ → ℕ) → RunsFrom high b at → (k : ℕ) → k < b → b - 1 - at b k ≡ at b (b - 1 - k)
-mirrored true b at runs k h = let here = runs k h in let there = runs (b - 1 - k) (omega arith) in omega arith
-mirrored false b at runs k h = let here = runs k h in let there = runs (b - 1 - k) (omega arith) in omega arith
+mirrored high b at runs k h = grind (arith, runs k, runs (b - 1 - k))
 
 in_element : (high : Bool) (b : ℕ) (at : ℕ → ℕ → ℕ) → RunsFrom high b at → (k : ℕ) → k < b → at b k < b
-in_element true b at runs k h = let here = runs k h in omega arith
-in_element false b at runs k h = let here = runs k h in omega arith
+in_element high b at runs k h = grind (arith, runs k)
 
 pub ReversesBlocks-end : (high : Bool) (b : ℕ) (at : ℕ → ℕ → ℕ) → RunsFrom high b at → (size lower now before : ℕ) → ReversesBlocks b size lower now before → size ≤ 1 → element_bits b at now ≡ reverse (element_bits b at before)
 ReversesBlocks-end high b at runs size lower now before exchange last =
-    let old = length-element_bits b at before in
-    let new = length-element_bits b at now in
-    let long = length-reverse (element_bits b at before) in
-    same_lists _ _ (omega arith) (λ k d inside.
-    let below : k < b = omega arith in
-    let from_end : length (element_bits b at before) - 1 - k ≡ b - 1 - k = omega arith in
-    get-element_bits b at now k d below
-    ∙ ap (λ (c : ℕ). c == 1) (reversed_bits b size lower now before exchange last (at b k) (in_element high b at runs k below) ∙ ap (bit_at before) (mirrored high b at runs k below))
-    ∙ sym (get_or-reverse (element_bits b at before) k d (omega arith)
-    ∙ ap (λ (n : ℕ). slice_index_or (element_bits b at before) n d) from_end
-    ∙ get-element_bits b at before (b - 1 - k) d (omega arith)))
+    same_lists _ _ (grind (arith, length-element_bits, length-reverse)) (λ k d inside. grind (arith, length-element_bits, get-element_bits, length-reverse, get_or-reverse, in_element high b at runs k, mirrored high b at runs k, reversed_bits b size lower now before exchange last (at b k)))

@@ -3,7 +3,6 @@ use Rattle.std.specs.Prelude.{◌≡◌, ◌≢◌, ℕ, ◌+◌, ◌-◌, ◌/�
 use Rattle.std.specs.Int.{bit_at}
 use Rattle.std.proofs.Common.{arith, rules, sym, ◌∙◌, ap}
 use Rattle.std.proofs.lemmas.List.{places, same_lists}
-use Rattle.std.proofs.lemmas.Nat.{div-add-mod'}
 use Rattle.bitvec_base.specs.declared.window.Window.{Window}
 use Rattle.bitvec_base.specs.FoundLaws.{masked-none, masked-one}
 use Rattle.bitvec_base.specs.Memory.{HasWindow, element_bits, list_in}
@@ -18,7 +17,7 @@ use Rattle.bitvec_store.specs.Width.{IsWidth}
 use Rattle.bitvec_store.specs.WidthLaws.{width_some}
 use Rattle.bitvec_base.specs.WritesLaws.{length-list}
 use Rattle.bitvec_words.specs.WordLaws.{padded-all, word_whole}
-use Rattle.bitvec_cells.specs.WalkLaws.{Walked-start, first-len, first-place}
+use Rattle.bitvec_cells.specs.WalkLaws.{Walked-start, first-len}
 use Rattle.bitvec_words.specs.Elements.{elements_window}
 use Rattle.bitvec_words.specs.ShortWindow.{padded}
 use Rattle.bitvec_words.specs.FieldLaws.{list-part}
@@ -32,7 +31,6 @@ module _ (b : ℕ) (at : ℕ → ℕ → ℕ) (xs : List ℕ) (window : Window) 
   pub word-front : b ≤ 64 → 64 ≤ window.len → window.start % b ≡ 0 → HasWindow b xs window → element_bits 64 at word ≡ list_in b at xs (elements_window b (window.start / b) (64 / b)) → IsFront b at xs window word 64
   word-front narrow long edge has bits =
       let whole = word_whole b width narrow in
-      let place = div-add-mod' window.start b in
       let elements = elements_window b (window.start / b) (64 / b) in
       let len = length-list b at xs elements (HasWindow-part b xs window elements has (omega arith) (omega arith)) in
       record {
@@ -51,10 +49,7 @@ module _ (b : ℕ) (at : ℕ → ℕ → ℕ) (xs : List ℕ) (window : Window) 
       let front = front_window window in
       let part = first_part_of b front in
       let len = first-len b front wide (omega arith) in
-      let place = first-place b front in
-      let start = has.within.start in
-      let end = has.within.len in
-      let has_front : HasWindow b xs front = record { fits = has.fits; within = record { start = start; len = omega arith } } in
+      let has_front : HasWindow b xs front = record { fits = has.fits; within = record { start = has.within.start; len = omega arith } } in
       let same = list-same b at xs (window_range window 0 (part.to - part.from)) (part_window b part) (omega arith) (omega arith) in
       let holds = list-part b at xs part (HasPart-first b xs front front wide (omega arith) has_front (Walked-start b front)) in
       record {
@@ -81,13 +76,11 @@ module _ (b c : ℕ) (at to : ℕ → ℕ → ℕ) (v word from i n : ℕ) (orde
 
   next : (bit : Bool) → (bit_at v (at b i) == 1) ≡ bit → slice_range (element_bits b at v) from i ++ (bit ∷ []) ≡ slice_range (element_bits b at v) from (i + 1)
   next bit here =
-      let wide = length-element_bits b at v in
-      rw (← here, ← get-element_bits b at v i false below) (range-push (element_bits b at v) from i false order (omega arith))
+      rw (← here, ← get-element_bits b at v i false below) (range-push (element_bits b at v) from i false order (omega (arith, length-element_bits)))
 
   pub gathered-none : n ≡ 0 → element_bits c to word ≡ padded c (slice_range (element_bits b at v) from (i + 1))
   gathered-none none =
-      let size = long in
-      held ∙ none_padded c _ (omega arith) ∙ ap (padded c) (next false (ap (λ (c : ℕ). c == 1) (masked-none v (at b i) n is none)))
+      held ∙ none_padded c _ (omega (arith, long)) ∙ ap (padded c) (next false (ap (λ (c : ℕ). c == 1) (masked-none v (at b i) n is none)))
 
   pub gathered-one : Permutes c (to c) → n ≢ 0 → element_bits c to (bit_or word (2 ^ to c (i - from))) ≡ padded c (slice_range (element_bits b at v) from (i + 1))
   gathered-one p some =

@@ -1,9 +1,8 @@
 -- Elements of 128 bits as two words: their bits, and words joined at both places.
-use Rattle.std.specs.Prelude.{◌≡◌, ℕ, ◌+◌, ◌-◌, ◌*◌, ◌/◌, ◌%◌, ◌^◌, ◌<◌, ◌≤◌, ◌==◌, ◌||◌, Bool, true, false, List, [], ◌∷◌, ◌++◌, length, take, drop, slice_index, slice_index_or, bit_or, refl}
+use Rattle.std.specs.Prelude.{◌≡◌, ℕ, ◌+◌, ◌-◌, ◌*◌, ◌/◌, ◌%◌, ◌^◌, ◌<◌, ◌≤◌, ◌||◌, Bool, true, false, List, [], ◌∷◌, ◌++◌, length, take, drop, slice_index, slice_index_or, bit_or, refl}
 use Rattle.std.specs.Int.{bit_at}
 use Rattle.std.specs.Simd.Lanes.{zip2}
-use Rattle.std.proofs.Common.{arith, rules, sym, ◌∙◌, ap, ⊎_elim, length-append}
-use Rattle.std.proofs.lemmas.Bool.{cases_lt}
+use Rattle.std.proofs.Common.{arith, rules, sym, ◌∙◌, ap}
 use Rattle.std.proofs.lemmas.List.{same_lists, places}
 use Rattle.std.proofs.lemmas.Nat.{mod_below, or_lt, pow_pos, shr_le}
 use Rattle.std.proofs.lemmas.Nat.Bits.{bit_at_cat_low, bit_at_cat_high}
@@ -93,29 +92,11 @@ words-joined-high high at ends is k bound = words-joined up down up-few down-few
 
 -- ---- the bits of two words
 
-front : (list other : List Bool) (n i : ℕ) (d : Bool) → length list ≡ n → i < n → slice_index_or (list ++ other) i d ≡ slice_index_or list i d
-front list other n i d long low = grind (arith, places)
-
-back : (list other : List Bool) (n i : ℕ) (d : Bool) → length list ≡ n → n ≤ i → slice_index_or (list ++ other) i d ≡ slice_index_or other (i - n) d
-back list other n i d long high = grind (arith, places)
-
 halves : (at : ℕ → ℕ → ℕ) (v first second : ℕ)
     → ((i : ℕ) → i < 64 → bit_at v (at 128 i) ≡ bit_at first (at 64 i))
     → ((i : ℕ) → 64 ≤ i → i < 128 → bit_at v (at 128 i) ≡ bit_at second (at 64 (i - 64)))
     → element_bits 128 at v ≡ element_bits 64 at first ++ element_bits 64 at second
-halves at v first second one other =
-    let whole = length-element_bits 128 at v in
-    let before = length-element_bits 64 at first in
-    let behind = length-element_bits 64 at second in
-    let both = length-append (element_bits 64 at first) (element_bits 64 at second) in
-    same_lists _ _ (omega arith) (λ i d inside.
-    let below : i < 128 = omega arith in
-    get-element_bits 128 at v i d below ∙ ⊎_elim
-    (λ (low : i < 64). ap (λ (n : ℕ). n == 1) (one i low)
-    ∙ sym (front (element_bits 64 at first) (element_bits 64 at second) 64 i d before low ∙ get-element_bits 64 at first i d low))
-    (λ (high : 64 ≤ i). ap (λ (n : ℕ). n == 1) (other i high below)
-    ∙ sym (back (element_bits 64 at first) (element_bits 64 at second) 64 i d before high ∙ get-element_bits 64 at second (i - 64) d (omega arith)))
-    (cases_lt i 64))
+halves at v first second one other = same_lists _ _ (grind (arith, length-element_bits, places)) (λ i d inside. grind (arith, places, length-element_bits, get-element_bits, one i, other i))
 
 halves-low : (at : ℕ → ℕ → ℕ) → ((b : ℕ) → RunsFrom false b at) → (x y : ℕ) → x < 2 ^ 64 → element_bits 128 at (y * 2 ^ 64 + x) ≡ element_bits 64 at x ++ element_bits 64 at y
 halves-low at ends x y small =

@@ -30,30 +30,15 @@ low b i = i
 -- an element's bits under an order are those numbered from the least significant one on
 element-same : (b : ℕ) (at : ℕ → ℕ → ℕ) → Permutes b (at b) → (v w : ℕ) → element_bits b low v ≡ element_bits b low w → element_bits b at v ≡ element_bits b at w
 element-same b at p v w same =
-    let left = length-element_bits b at v in
-    let right = length-element_bits b at w in
-    same_lists _ _ (omega arith) (λ k d inside.
-    let index : k < b = omega arith in
-    let there = p.below k index in
-    get-element_bits b at v k d index
-    ∙ sym (get-element_bits b low v (at b k) d there)
-    ∙ ap (λ (l : List Bool). slice_index_or l (at b k) d) same
-    ∙ get-element_bits b low w (at b k) d there
-    ∙ sym (get-element_bits b at w k d index))
+    same_lists _ _ (grind (arith, length-element_bits)) (λ k d inside. grind (arith, length-element_bits, get-element_bits, p.below k, ap (λ (l : List Bool). slice_index_or l (at b k) d) same))
 
 -- a place of a memory is one of those numbered from the least significant bit on
 pub place-low : (b : ℕ) (at : ℕ → ℕ → ℕ) → Permutes b (at b) → 0 < b → (xs : List ℕ) (k : ℕ) → k < b * length xs → (d : Bool)
     → slice_index_or (memory_bits b at xs) k d ≡ slice_index_or (memory_bits b low xs) (k / b * b + at b (k % b)) d
 place-low b at p some xs k inside d =
-    let place = div-add-mod' k b in
-    let index = mod_below k b some in
-    let there = p.below (k % b) index in
+    let there = p.below (k % b) (mod_below k b some) in
     let fits = element_fits b (k / b) (length xs) (div_below k b (length xs) some (omega arith)) in
-    get-memory_bits b at xs k d inside
-    ∙ ap (place_bit b at xs) (sym place)
-    ∙ place_bit-element b at xs (k / b) (k % b) index
-    ∙ sym (place_bit-element b low xs (k / b) (at b (k % b)) there)
-    ∙ sym (get-memory_bits b low xs (k / b * b + at b (k % b)) d (omega arith))
+    grind (arith, get-memory_bits, place_bit-element b at xs (k / b) (k % b), place_bit-element b low xs (k / b) (at b (k % b)), ap (place_bit b at xs) (div-add-mod' k b), mod_below)
 
 -- elements that lack a bit lack it under every order
 pub lacks-same : (b : ℕ) (at : ℕ → ℕ → ℕ) → Permutes b (at b) → 0 < b → (xs : List ℕ) (want : Bool) → None ≡ first_place want (memory_bits b low xs) → None ≡ first_place want (memory_bits b at xs)
@@ -64,7 +49,6 @@ lacks-same b at p some xs want none =
     let absent = first_place-absent want (memory_bits b low xs) (sym none) in
     let all : memory_bits b at xs ≡ replicate n (not want) =
     lacks_filled n (memory_bits b at xs) want long (λ k inside.
-    let there = p.below (k % b) (mod_below k b some) in
     let fits = element_fits b (k / b) (length xs) (div_below k b (length xs) some (omega arith)) in
     subst (λ (x : Bool). x ≢ want) (sym (place-low b at p some xs k (omega arith) false)) (absent (k / b * b + at b (k % b)) (omega arith))) in
     rw (all, first_place-other want n) refl
@@ -85,7 +69,6 @@ module _ (b : ℕ) (at : ℕ → ℕ → ℕ) (p : Permutes b (at b)) (width : I
   inside : HasWindow b xs (elements_window b 0 (64 / b))
   inside =
       let all = long in
-      let whole = word_whole b width narrow in
       record { fits = omega arith; within = record { start = omega arith; len = omega arith } }
 
   -- one that was taken out of it
@@ -107,8 +90,6 @@ module _ (b : ℕ) (at : ℕ → ℕ → ℕ) (p : Permutes b (at b)) (width : I
       → element_bits 64 at (bit_or ordered part) ≡ padded 64 (list_in b at xs (elements_window b 0 (step + 1)))
   word-next ordered v part step more before is moved =
       let some = width_some b width in
-      let all = long in
-      let whole = word_whole b width narrow in
       let order = mul-le-mul_left b more in
       let has = inside in
       let here : step < length xs = element_of b step 0 (length xs) (omega arith) in

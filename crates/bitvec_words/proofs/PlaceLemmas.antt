@@ -1,5 +1,5 @@
 -- Where the first part of a window stands, its whole elements, and what is behind them.
-use Rattle.std.specs.Prelude.{◌≡◌, ℕ, ◌+◌, ◌*◌, ◌/◌, ◌%◌, ◌^◌, ◌<◌, ◌≤◌, List, length}
+use Rattle.std.specs.Prelude.{◌≡◌, ℕ, ◌+◌, ◌*◌, ◌/◌, ◌%◌, ◌<◌, ◌≤◌, List, length}
 use Rattle.std.proofs.Common.{arith}
 use Rattle.std.proofs.Math.Nat.{mul-le-mul_left}
 use Rattle.std.proofs.lemmas.Nat.{div-add-mod', mod_below}
@@ -11,7 +11,7 @@ use Rattle.bitvec_words.specs.Elements.{elements_window}
 use Rattle.bitvec_words.specs.FieldLaws.{element_of}
 use Rattle.bitvec_words.specs.Front.{front_window}
 use Rattle.bitvec_words.specs.WholeLaws.{HasWindow-part}
-use Rattle.bitvec_words.specs.WordLaws.{width-some, word_whole}
+use Rattle.bitvec_words.specs.WordLaws.{width-some}
 
 -- an index of an element
 pub index-within : (b w s : ℕ) → IsWidth b → w ≡ b → s % w ≤ w
@@ -31,7 +31,6 @@ HasWindow-first_bits b xs window front is has = rw is (HasWindow-part b xs windo
 
 pub HasWindow-word : (b : ℕ) (xs : List ℕ) (window : Window) → IsWidth b → b ≤ 64 → 64 ≤ window.len → window.start % b ≡ 0 → HasWindow b xs window → HasWindow b xs (elements_window b (window.start / b) (64 / b))
 HasWindow-word b xs window width narrow long edge has =
-    let whole = word_whole b width narrow in
     let start = whole-all b window.start edge in
     HasWindow-part b xs window (elements_window b (window.start / b) (64 / b)) has (omega arith) (omega arith)
 
@@ -39,22 +38,4 @@ HasWindow-word b xs window width narrow long edge has =
 
 module _ (b : ℕ) (xs : List ℕ) (first count step : ℕ) (some : 0 < b) (has : HasWindow b xs (elements_window b first count)) (more : step < count) where
   pub element-inside : first + step < length xs
-  element-inside =
-      let order = mul-le-mul_left b more in
-      let start = has.within.start in
-      let len = has.within.len in
-      element_of b (first + step) 0 (length xs) (omega arith)
-
-  pub element-few : first + step < 2 ^ 64
-  element-few =
-      let fits = has.fits in
-      let inside = element-inside in
-      let wide = mul-le-mul_left (length xs) (let h : 1 ≤ b = omega arith in h) in
-      omega arith
-
-  pub elements-few : (w : ℕ) → w ≡ b → step * w < 2 ^ 64
-  elements-few w is =
-      let order = mul-le-mul_left b more in
-      let fits = has.fits in
-      let len = has.within.len in
-      rw is (omega arith)
+  element-inside = element_of b (first + step) 0 (length xs) (omega (arith, mul-le-mul_left b more))

@@ -65,10 +65,7 @@ same_filled b at p v w n bit is some small filled all =
 
 -- a list without the bit
 other_bit : (want bit : Bool) → bit ≢ want → bit ≡ not want
-other_bit true true apart = absurd (apart refl)
-other_bit true false apart = refl
-other_bit false true apart = refl
-other_bit false false apart = absurd (apart refl)
+other_bit want bit apart = grind arith
 
 pub lacks_filled : (b : ℕ) (list : List Bool) (want : Bool) → length list ≡ b → ((k : ℕ) → k < length list → slice_index_or list k false ≢ want) → list ≡ replicate b (not want)
 lacks_filled b list want long absent =
@@ -95,25 +92,18 @@ range-element b at v n all = let long = length-element_bits b at v in rw all (ra
 -- a place of it
 pub first-below : (b : ℕ) (at : ℕ → ℕ → ℕ) (v i : ℕ) (want : Bool) → Some i ≡ first_place want (element_bits b at v) → i < b
 first-below b at v i want here =
-    let below = first_place-below want (element_bits b at v) i (sym here) in
-    let long = length-element_bits b at v in
-    omega arith
+    omega (arith, first_place-below want (element_bits b at v) i (sym here), length-element_bits b at v)
 
 pub last-below : (b : ℕ) (at : ℕ → ℕ → ℕ) (v i : ℕ) (want : Bool) → Some i ≡ last_place want (element_bits b at v) → i < b
 last-below b at v i want here =
-    let below = last_place-below want (element_bits b at v) i (sym here) in
-    let long = length-element_bits b at v in
-    omega arith
+    omega (arith, last_place-below want (element_bits b at v) i (sym here), length-element_bits b at v)
 
 -- ---- the elements that are loaded, s being the first place of a window
 
 -- of whole elements a search loads no more than there are
 pub first_loads-elements : (b : ℕ) (at : ℕ → ℕ → ℕ) (xs : List ℕ) (first count : ℕ) (want : Bool) (found : Option ℕ) → 0 < b → HasWindow b xs (elements_window b first count) → found ≡ first_place want (list_in b at xs (elements_window b first count))
     → first_loads b (elements_window b first count) found ≤ count
-first_loads-elements b at xs first count want found some has is =
-    let most = first_loads-most b at xs (elements_window b first count) want some has in
-    let whole = touched-whole b first count some in
-    rw is (omega arith)
+first_loads-elements b at xs first count want found some has is = rw is (omega (arith, first_loads-most, touched-whole))
 
 -- of a search from the back: in a window that has a bit, or none
 pub last_loads-some : (b : ℕ) (window : Window) (found : Option ℕ) → 0 < window.len → ((i : ℕ) → found ≡ Some i → i < window.len) → 1 ≤ last_loads b window found
@@ -128,12 +118,8 @@ last_loads-some b window (Some i) some below =
 -- a place that is found lies in the window
 pub first-inside : (b : ℕ) (at : ℕ → ℕ → ℕ) (xs : List ℕ) (window : Window) (want : Bool) (i : ℕ) → HasWindow b xs window → Some i ≡ first_place want (list_in b at xs window) → i < window.len
 first-inside b at xs window want i has here =
-    let below = first_place-below want (list_in b at xs window) i (sym here) in
-    let long = length-list b at xs window has in
-    omega arith
+    omega (arith, first_place-below want (list_in b at xs window) i (sym here), length-list b at xs window has)
 
 pub last-inside : (b : ℕ) (at : ℕ → ℕ → ℕ) (xs : List ℕ) (window : Window) (want : Bool) (found : Option ℕ) → HasWindow b xs window → found ≡ last_place want (list_in b at xs window) → (i : ℕ) → found ≡ Some i → i < window.len
 last-inside b at xs window want found has is i here =
-    let below = last_place-below want (list_in b at xs window) i (sym is ∙ here) in
-    let long = length-list b at xs window has in
-    omega arith
+    omega (arith, last_place-below want (list_in b at xs window) i (sym is ∙ here), length-list b at xs window has)

@@ -44,20 +44,11 @@ word-digits b word width narrow =
     let some = width_some b width in
     let whole = word_whole b width narrow in
     let count = ap (λ (m : ℕ). b * m) (length-digits (2 ^ b) n word) in
-    let wide = length-element_bits 64 low word in
     let long = length-memory_bits b low xs in
-    same_lists _ _ (omega arith) (λ k d inside.
-    let place = div-add-mod' k b in
+    same_lists _ _ (grind (arith, length-element_bits)) (λ k d inside.
     let index = mod_below k b some in
-    let below = div_below k b n some (omega arith) in
-    let same : k % b + k / b * b ≡ k = omega arith in
-    get-element_bits 64 low word k d (omega arith)
-    ∙ sym (
-    get-memory_bits b low xs k d (omega arith)
-    ∙ ap (place_bit b low xs) (sym place)
-    ∙ place_bit-element b low xs (k / b) (k % b) index
-    ∙ ap (λ (v : ℕ). bit_at v (k % b) == 1) (digit-at b n word (k / b) below)
-    ∙ ap (λ (c : ℕ). c == 1) (bit_at_cut b (word / 2 ^ (k / b * b)) (k % b) index ∙ bit_at_shr word (k / b * b) (k % b) ∙ ap (bit_at word) same)))
+    let below = div_below k b n some (grind (arith, length-element_bits)) in
+    grind (arith, length-element_bits, get-element_bits, get-memory_bits, ap (place_bit b low xs) (div-add-mod' k b), place_bit-element b low xs (k / b) (k % b), digit-at b n word (k / b), bit_at_cut b (word / 2 ^ (k / b * b)) (k % b), bit_at_shr word (k / b * b) (k % b)))
 
 -- ---- a word and the one that an order makes of it
 
@@ -74,8 +65,6 @@ record Mirrored (b : ℕ) (at : ℕ → ℕ → ℕ) (k : ℕ) : Type 0 where
 mirrored : (high : Bool) (b : ℕ) (at : ℕ → ℕ → ℕ) → ((c : ℕ) → RunsFrom high c at) → IsWidth b → b ≤ 64 → (k : ℕ) → k < 64 → Mirrored b at k
 mirrored false b at runs width narrow k inside =
     let some = width_some b width in
-    let parts = div-add-mod' k b in
-    let here = runs b (k % b) (mod_below k b some) in
     let same : place_of b at k ≡ k = omega arith in
     let kept : at 64 k ≡ k = runs 64 k inside in
     let all : at 64 (place_of b at k) ≡ k = ap (at 64) same ∙ kept in
@@ -91,7 +80,6 @@ mirrored true b at runs width narrow k inside =
     let parts = div-add-mod' k b in
     let index = mod_below k b some in
     let below = div_below k b n some (omega arith) in
-    let here = runs b (k % b) index in
     let q = n - 1 - k / b in
     let count : n ≡ q + 1 + k / b = omega arith in
     let sum : n * b ≡ q * b + b + k / b * b = ap (λ (m : ℕ). m * b) count ∙ omega arith in
@@ -115,7 +103,6 @@ module _ (high : Bool) (b : ℕ) (at : ℕ → ℕ → ℕ) (runs : (c : ℕ) �
       let whole = word_whole b width narrow in
       let long = sym (length-memory_bits b low xs) ∙ sym (ap length elements) ∙ length-element_bits 64 low word in
       let row = element_fits b (k / b) (64 / b) (div_below k b (64 / b) some (omega arith)) in
-      let there = p.below (k % b) (mod_below k b some) in
       place-low b at p some xs k (omega arith) d
       ∙ ap (λ (l : List Bool). slice_index_or l (place_of b at k) d) (sym elements)
       ∙ get-element_bits 64 low word (place_of b at k) d (omega arith)
@@ -153,10 +140,9 @@ module _ (high : Bool) (b : ℕ) (at : ℕ → ℕ → ℕ) (runs : (c : ℕ) �
     word-stored ys is =
         let n = 64 / b in
         let some = width_some b width in
-        let inside = elements-inside b xs first n some has in
         let digits = digits_l (2 ^ b) n other in
         let long = length-digits (2 ^ b) n other in
-        let room : first + length digits ≤ length xs = omega arith in
+        let room : first + length digits ≤ length xs = omega (arith, elements-inside b xs first n some has) in
         let bits = same-back word other same digits (word-digits b other width narrow) in
         rw is (record {
           bits = memory-write_at b at xs digits first some room ∙ ap (write_at (memory_bits b at xs) (first * b)) (sym bits);

@@ -1,10 +1,9 @@
 -- What holds of a window by the two windows that it is split into.
-use Rattle.std.specs.Prelude.{◌≡◌, ◌≢◌, ℕ, ◌+◌, ◌-◌, ◌*◌, ◌/◌, ◌%◌, ◌^◌, ◌<◌, ◌≤◌, Bool, not, List, ◌++◌, length, map, replicate, cond, count_by, slice_index, Option, Some, None, refl}
-use Rattle.std.proofs.Common.{arith, sym, ◌∙◌, ap, subst, ⊎_elim}
-use Rattle.std.proofs.lemmas.Bool.{cases_lt}
+use Rattle.std.specs.Prelude.{◌≡◌, ℕ, ◌+◌, ◌-◌, ◌*◌, ◌/◌, ◌%◌, ◌^◌, ◌<◌, ◌≤◌, Bool, not, List, ◌++◌, length, map, replicate, cond, count_by, slice_index, Option, Some, None, refl}
+use Rattle.std.proofs.Common.{arith, sym, ◌∙◌, ap, subst}
 use Rattle.std.proofs.lemmas.List.{map-append}
 use Rattle.std.proofs.lemmas.List.Sums.{sum_by-append}
-use Rattle.std.proofs.lemmas.Nat.{div-add-mod', mod-mul-add}
+use Rattle.std.proofs.lemmas.Nat.{mod-mul-add}
 use Rattle.std.proofs.Math.Nat.{add-mul, mul-le-mul_left}
 use Rattle.bitvec_base.specs.declared.part.Part.{Part}
 use Rattle.bitvec_base.specs.declared.window.Window.{Window}
@@ -14,13 +13,13 @@ use Rattle.bitvec_base.specs.Parts.{HasPart, first_part_of, part_window, tail_pa
 use Rattle.bitvec_base.specs.Window.{window_after}
 use Rattle.bitvec_base.specs.WritesLaws.{Writes-is, Writes-join, length-list, list-behind, list-join}
 use Rattle.bitvec_cells.specs.Cost.{first_loads, last_loads, touched_count}
-use Rattle.bitvec_cells.specs.WalkLaws.{first-len, first-place, touched-none}
+use Rattle.bitvec_cells.specs.WalkLaws.{first-len, first-place}
 use Rattle.bitvec_words.specs.Elements.{elements_window, whole_of}
 use Rattle.bitvec_words.specs.FieldLaws.{element_of, list-whole}
 use Rattle.bitvec_words.specs.FillingLaws.{replicate-parts}
 use Rattle.bitvec_words.specs.Split.{IsPart, Split}
-use Rattle.bitvec_words.specs.TouchedLaws.{head_edge, touched-edge, touched-one}
-use Rattle.bitvec_words.specs.WholeLaws.{HasWindow-part, window-end}
+use Rattle.bitvec_words.specs.TouchedLaws.{head_edge, touched-edge, touched-one, touched-empty}
+use Rattle.bitvec_words.specs.WholeLaws.{HasWindow-part}
 use Rattle.bitvec_words.proofs.ScanLemmas.{first-behind, first-front, first-inside, first-lacks, last-behind, last-front, last-inside}
 
 pub count-parts : (front rest whole : List Bool) (m n : ℕ) → front ++ rest ≡ whole → m ≡ count_by (λ (bit : Bool). bit) front → n ≡ count_by (λ (bit : Bool). bit) rest → m + n ≡ count_by (λ (bit : Bool). bit) whole
@@ -32,35 +31,21 @@ count-parts front rest whole m n next first second =
 module _ {b : ℕ} {part : Part} (is : IsPart b part) where
   pub HasPart-is : {xs : List ℕ} → HasWindow b xs (part_window b part) → HasPart b xs part
   HasPart-is {xs} has =
-      let some = is.some in
       let bound = is.bound in
-      let end = has.within.len in
       record { element = element_of b part.element part.from (length xs) (omega arith); order = omega arith; bound = bound }
 
   pub touched-part : touched_count b (part_window b part).start (part_window b part).len ≡ 1
-  touched-part =
-      let some = is.some in
-      let bound = is.bound in
-      let place = mod-mul-add part.element b part.from (omega arith) in
-      touched-one b (part.element * b + part.from) (part.to - part.from) (omega arith) (omega arith) (omega arith)
-
-pub IsPart-tail : (b : ℕ) (part : Part) → part.from ≡ 0 → part.to < b → part.to ≢ 0 → IsPart b part
-IsPart-tail b part first below some = record { some = omega arith; bound = omega arith }
+  touched-part = grind (arith, touched-one b (part.element * b + part.from) (part.to - part.from), mod-mul-add part.element b part.from)
 
 -- ---- the memory's windows, and its lists
 
 module _ {b : ℕ} {front rest window : Window} (split : Split b front rest window) where
   pub HasWindow-front : {xs : List ℕ} → HasWindow b xs window → HasWindow b xs front
   HasWindow-front {xs} has =
-      let start = split.start in
-      let sum = split.sum in
       HasWindow-part b xs window front has (omega arith) (omega arith)
 
   pub HasWindow-behind : {xs : List ℕ} → HasWindow b xs window → HasWindow b xs rest
   HasWindow-behind {xs} has =
-      let start = split.start in
-      let next = split.next in
-      let sum = split.sum in
       HasWindow-part b xs window rest has (omega arith) (omega arith)
 
   pub all-front : rest.len ≡ 0 → front ≡ window
@@ -71,25 +56,12 @@ module _ {b : ℕ} {front rest window : Window} (split : Split b front rest wind
 
   -- the elements that they touch
   pub touched-split : 0 < b → touched_count b window.start window.len ≡ touched_count b front.start front.len + touched_count b rest.start rest.len
-  touched-split some =
-      let start = split.start in
-      let next = split.next in
-      rw (split.sum, ← start)
-      (⊎_elim
-      (λ (more : 0 < rest.len). rw next (touched-edge b front.start front.len rest.len some (rw next at (split.edge more))))
-      (λ (empty : rest.len ≤ 0).
-      let none : rest.len ≡ 0 = omega arith in
-      let same : front.len + 0 ≡ front.len = omega arith in
-      rw (none, same, touched-none b rest.start) (omega arith))
-      (cases_lt 0 rest.len))
+  touched-split some = grind (arith, touched-edge b front.start front.len rest.len, touched-empty b rest.start rest.len, split.edge)
 
   -- where nothing is behind
   module _ (none : rest.len ≡ 0) where
     pub list-all : (at : ℕ → ℕ → ℕ) (xs : List ℕ) → list_in b at xs front ≡ list_in b at xs window
     list-all at xs = ap (λ (w : Window). list_in b at xs w) (all-front none)
-
-    pub touched-all : touched_count b front.start front.len ≡ touched_count b window.start window.len
-    touched-all = ap (λ (w : Window). touched_count b w.start w.len) (all-front none)
 
     pub last_loads-all : (found : Option ℕ) → last_loads b front found ≡ last_loads b window found
     last_loads-all found = ap (λ (w : Window). last_loads b w found) (all-front none)
@@ -120,19 +92,13 @@ module _ {b : ℕ} {front rest window : Window} (split : Split b front rest wind
       split-behind i none here = first-behind want _ _ _ front.len i none here front-long list-split
 
       pub split-few : (i : ℕ) → None ≡ first_place want (list_in b at xs front) → Some i ≡ first_place want (list_in b at xs rest) → front.len + i < 2 ^ 64
-      split-few i none here =
-          let below = first-inside b at xs window want _ has (split-behind i none here) in
-          let end = window-end b xs window has in
-          omega arith
+      split-few i none here = omega (arith, first-inside b at xs window want _ has (split-behind i none here))
 
       pub split-last : (i : ℕ) → Some i ≡ last_place want (list_in b at xs rest) → Some (front.len + i) ≡ last_place want (list_in b at xs window)
       split-last i here = last-behind want _ _ _ front.len i here front-long list-split
 
       pub split-last_few : (i : ℕ) → Some i ≡ last_place want (list_in b at xs rest) → front.len + i < 2 ^ 64
-      split-last_few i here =
-          let below = last-inside b at xs window want _ has (split-last i here) _ refl in
-          let end = window-end b xs window has in
-          omega arith
+      split-last_few i here = omega (arith, last-inside b at xs window want _ has (split-last i here) _ refl)
 
       pub split-last_front : (found : Option ℕ) → None ≡ last_place want (list_in b at xs rest) → found ≡ last_place want (list_in b at xs front) → found ≡ last_place want (list_in b at xs window)
       split-last_front found none here = last-front want _ _ _ found none here list-split
@@ -154,7 +120,6 @@ module _ {b : ℕ} {front rest window : Window} (split : Split b front rest wind
     -- what is behind is as it was when it is flipped
     pub Writes-flipped_split : Writes b at old mid front (map not (list_in b at old front)) → Writes b at mid new rest (map not (list_in b at mid rest)) → Writes b at old new window (map not (list_in b at old window))
     Writes-flipped_split before after =
-        let next = split.next in
         let kept = list-behind b at old mid front rest _ (HasWindow-front has) (HasWindow-behind has) (omega arith) before in
         Writes-is b at old new window _ _ (Writes-split _ _ before after)
         (ap (λ (l : List Bool). map not (list_in b at old front) ++ map not l) kept ∙ sym (map-append not _ _) ∙ ap (map not) (list-split at has))
@@ -170,13 +135,7 @@ module _ {b : ℕ} {front rest window : Window} (split : Split b front rest wind
       sym (touched-split part some)
 
   pub last-loads_behind : (i : ℕ) → last_loads b rest (Some i) ≡ last_loads b window (Some (front.len + i))
-  last-loads_behind i =
-      let start = split.start in
-      let next = split.next in
-      let sum = split.sum in
-      let place : window.start + (front.len + i) ≡ rest.start + i = omega arith in
-      let left : window.len - (front.len + i) ≡ rest.len - i = omega arith in
-      rw (place, left) refl
+  last-loads_behind i = grind arith
 
   pub last-loads_front : (found : Option ℕ) → ((i : ℕ) → found ≡ Some i → i < front.len) → touched_count b rest.start rest.len + last_loads b front found ≡ last_loads b window found
   last-loads_front None inside = let all = touched-split split some in omega arith
@@ -211,10 +170,11 @@ module _ (b : ℕ) (window : Window) (some : 0 < b) (more : 0 < window.len) wher
         edge = λ left. head_edge b window.start ((first_part_of b window).to - (first_part_of b window).from) window.len some (omega arith) (omega arith);
       }
 
+  pub head-touched : touched_count b window.start window.len ≡ 1 + touched_count b (window_after ((first_part_of b window).to - (first_part_of b window).from) window).start (window_after ((first_part_of b window).to - (first_part_of b window).from) window).len
+  head-touched = omega (arith, touched-split head-split some, touched-part head-part)
+
 pub tail-split : (b : ℕ) (window : Window) → 0 < b → window.start % b ≡ 0 → Split b (whole_of b window) (part_window b (tail_part_of b window)) window
 tail-split b window some edge =
-    let place = div-add-mod' window.start b in
-    let all = div-add-mod' window.len b in
     record { start = omega arith; next = omega arith; sum = omega arith; edge = λ _. mod-mul-add (window.start / b + window.len / b) b 0 some }
 
 -- n of some elements, and those behind them
@@ -235,7 +195,6 @@ module _ (b : ℕ) (at : ℕ → ℕ → ℕ) (xs : List ℕ) (first count step 
   list-one : element_bits b at v ≡ list_in b at xs (elements_window b (first + step) 1)
   list-one =
       let order = mul-le-mul_left b more in
-      let end = has.within.len in
       let start = has.within.start in
       let one : 1 * b ≡ b = omega arith in
       ap (element_bits b at) is ∙ sym (list-whole b at xs (first + step) (element_of b (first + step) 0 (length xs) (omega arith)))

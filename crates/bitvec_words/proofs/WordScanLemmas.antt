@@ -1,9 +1,10 @@
 -- A search of elements some at a time, and of the elements that a window touches.
+use Rattle.std.proofs.lemmas.Bool.Decides.{nat_tests}
 use Rattle.std.specs.Prelude.{◌≡◌, ℕ, ◌+◌, ◌-◌, ◌*◌, ◌/◌, ◌%◌, ◌^◌, ◌<◌, ◌≤◌, if◌then◌else◌, Bool, not, nat_lt, List, ◌++◌, length, slice_index, bit_or, bit_xor, Option, Some, None, option_map, refl}
 use Rattle.std.specs.Bool.{then_some}
 use Rattle.std.specs.Int.{div_ceil}
 use Rattle.std.specs.Option.{option_or}
-use Rattle.std.proofs.Common.{arith, lit≤, sym, ◌∙◌, ap, ⊎_elim, length-append}
+use Rattle.std.proofs.Common.{arith, sym, ◌∙◌, ap, ⊎_elim, length-append}
 use Rattle.std.proofs.Math.Nat.{add-mul, div-mul-le_self, lt_of_mul-lt-mul_right, mul-le-mul_left, mul_assoc}
 use Rattle.std.proofs.lemmas.Bool.{cases_lt, le-ltb, lt-ltb}
 use Rattle.std.proofs.lemmas.Grind.{div_ceil_times}
@@ -18,20 +19,16 @@ use Rattle.bitvec_base.specs.declared.window.Window.{Window}
 use Rattle.bitvec_base.specs.PlacesLaws.{first_place-append, first_place-below}
 use Rattle.bitvec_base.specs.WritesLaws.{length-list, list-join}
 use Rattle.bitvec_cells.specs.Cost.{first_loads, touched_count}
-use Rattle.bitvec_cells.specs.WalkLaws.{touched-none}
 use Rattle.bitvec_words.specs.Elements.{elements_window}
 use Rattle.bitvec_words.specs.FieldLaws.{element_of, list-whole}
 use Rattle.bitvec_words.specs.SameLaws.{or_none, or_none_right}
-use Rattle.bitvec_words.specs.TouchedLaws.{touched-full, touched-more, touched-whole}
-use Rattle.bitvec_words.specs.WholeLaws.{HasWindow-part, list-empty, list-same, window-end}
+use Rattle.bitvec_words.specs.TouchedLaws.{touched-full, touched-more, touched-whole, touched-empty}
+use Rattle.bitvec_words.specs.WholeLaws.{HasWindow-part, list-empty, list-same}
 use Rattle.bitvec_words.specs.Split.{Split}
 use Rattle.bitvec_words.proofs.SplitLemmas.{HasWindow-behind, HasWindow-front, elements-split, split-behind, split-few, split-found, split-lacks}
 use Rattle.bitvec_words.proofs.ScanLemmas.{first-lacks, first-passed, first_loads-elements}
 
 -- ---- elements, some at a time
-
-pub width-most : (b : ℕ) → IsWidth b → b ≤ 128
-width-most b w = at_each_width (λ n. n ≤ 128) (lit≤ tt) (lit≤ tt) (lit≤ tt) (lit≤ tt) (lit≤ tt) b w
 
 -- n blocks of `size` elements have so many bits
 pub blocks-bits : (n size b bits : ℕ) → size * b ≡ bits → n * size * b ≡ n * bits
@@ -46,9 +43,6 @@ module _ (b : ℕ) (at : ℕ → ℕ → ℕ) (xs : List ℕ) (first n : ℕ) (h
 
   pub elements-bound : 0 < b → first + n < 2 ^ 64
   elements-bound some =
-      let fits = has.fits in
-      let start = has.within.start in
-      let end = has.within.len in
       let wide = mul-le-mul_left (first + n) (let h : 1 ≤ b = omega arith in h) in
       omega arith
 
@@ -73,7 +67,6 @@ pub record Parted (b : ℕ) (xs : List ℕ) (first count n : ℕ) : Type 0 where
 pub parted : (b : ℕ) {xs : List ℕ} (first count n : ℕ) → IsWidth b → HasWindow b xs (elements_window b first count) → n ≤ count → Parted b xs first count n
 parted b {xs} first count n width has order =
     let split = elements-split b first count n (width_some b width) order in
-    let end = window-end b xs _ (HasWindow-front split has) in
     record {
       split = split;
       all = has;
@@ -101,15 +94,12 @@ block-at b size {xs} first count step width has within =
     let upto = parted b first count ((step + 1) * size) width has within in
     let sum : (step + 1) * size - step * size ≡ size = omega arith in
     let next = rw sum at (elements-split b first ((step + 1) * size) (step * size) (width_some b width) (omega arith)) in
-    let end = window-end b xs _ (HasWindow-front next upto.front) in
     record { next = next; upto = upto; here = HasWindow-behind next upto.front; few_bits = omega arith }
 
 -- of all blocks of s bits
 pub block : (b s : ℕ) {xs : List ℕ} (first count step : ℕ) → IsWidth b → HasWindow b xs (elements_window b first count) → step < count / (s / b) → Block b xs first count (s / b) step
 block b s first count step width has more =
-    let order = mul-le-mul_left (s / b) more in
-    let most = div-mul-le_self count (s / b) in
-    block-at b (s / b) first count step width has (omega arith)
+    block-at b (s / b) first count step width has (omega (arith, mul-le-mul_left (s / b) more))
 
 -- where those before it lack the bit
 module _ {b : ℕ} {xs : List ℕ} {first count size step : ℕ} (block : Block b xs first count size step) (at : ℕ → ℕ → ℕ) (want : Bool) (none : None ≡ first_place want (list_in b at xs (elements_window b first (step * size)))) where
@@ -126,8 +116,7 @@ module _ {b : ℕ} {xs : List ℕ} {first count size step : ℕ} (block : Block 
 -- ---- what two lists lack together, each of them lacks
 
 none_front : (front behind : Option ℕ) (n : ℕ) → None ≡ option_or front (option_map (λ j. n + j) behind) → None ≡ front
-none_front (Some j) behind n is = absurd cc
-none_front None behind n is = refl
+none_front front behind n is = grind arith
 
 -- ---- two elements, or four, which are passed by together
 
@@ -149,18 +138,11 @@ module _ (b : ℕ) (at : ℕ → ℕ → ℕ) (p : Permutes b (at b)) (lacking :
       refl
 
 pub length-two : (at : ℕ → ℕ → ℕ) (v w : ℕ) → 128 ≡ length (element_bits 64 at v ++ element_bits 64 at w)
-length-two at v w =
-    let first = length-element_bits 64 at v in
-    let second = length-element_bits 64 at w in
-    let both = length-append (element_bits 64 at v) (element_bits 64 at w) in
-    omega arith
+length-two at v w = omega (arith, length-element_bits, length-append {A = Bool})
 
 -- the elements of a block
 pub block_whole : (b : ℕ) → IsWidth b → 256 / b * b ≡ 256
 block_whole b w = at_each_width (λ n. 256 / n * n ≡ 256) refl refl refl refl refl b w
-
-pub blocks-some : (b : ℕ) → IsWidth b → 0 < 256 / b
-blocks-some b w = at_each_width (λ n. 0 < 256 / n) (lit≤ tt) (lit≤ tt) (lit≤ tt) (lit≤ tt) (lit≤ tt) b w
 
 -- are those of four words, if they are not wider than a word
 pub block_words : (b : ℕ) → IsWidth b → b ≤ 64 → 256 / b ≡ 4 * (64 / b)
@@ -172,10 +154,7 @@ block_pair b w = at_each_width (λ n. 64 < n → 256 / n ≡ 2) (λ wide. absurd
 
 module _ (b : ℕ) {xs : List ℕ} (first : ℕ) (width : IsWidth b) (wide : 64 < b) (has : HasWindow b xs (elements_window b first (256 / b))) where
   pub pair-inside : first + 1 < length xs
-  pair-inside =
-      let two = block_pair b width wide in
-      let len = rw two at has.within.len in
-      element_of b (first + 1) 0 (length xs) (omega arith)
+  pair-inside = element_of b (first + 1) 0 (length xs) (omega (arith, block_pair))
 
   pub list-pair : (at : ℕ → ℕ → ℕ) → element_bits b at (slice_index xs first) ++ element_bits b at (slice_index xs (first + 1)) ≡ list_in b at xs (elements_window b first (256 / b))
   list-pair at =
@@ -222,30 +201,10 @@ list-block b at xs first width narrow has =
 
 -- what is found in a longer list is in its front, or behind it
 found_front : (front behind : Option ℕ) (n i : ℕ) → ((j : ℕ) → front ≡ Some j → j < n) → Some i ≡ option_or front (option_map (λ j. n + j) behind) → then_some (nat_lt i n) i ≡ front
-found_front (Some j) behind n i below is =
-    let same : i ≡ j = cc in
-    let less = below j refl in
-    ap (λ (here : Bool). then_some here i) (lt-ltb i n (omega arith)) ∙ is
-found_front None (Some k) n i below is =
-    let same : i ≡ n + k = cc in
-    ap (λ (here : Bool). then_some here i) (le-ltb i n (omega arith))
-found_front None None n i below is = absurd cc
+found_front front behind n i below is = grind (arith, nat_tests)
 
 pub touched-ceil : (b s n : ℕ) → 0 < b → (0 < n → s % b ≡ 0) → touched_count b s n ≡ div_ceil n b
-touched-ceil b s n some edge =
-    ⊎_elim
-    (λ (more : 0 < n).
-    ⊎_elim
-    (λ (left : 0 < n % b). let all = touched-more b s n some (edge more) left in omega arith)
-    (λ (full : n % b ≤ 0). let all = touched-full b s n some (edge more) (omega arith) in omega arith)
-    (cases_lt 0 (n % b)))
-    (λ (empty : n ≤ 0).
-    let none : n ≡ 0 = omega arith in
-    let rounded = div_ceil_times 0 b some in
-    let few : div_ceil 0 b < 1 = lt_of_mul-lt-mul_right b (omega arith) in
-    let nothing = touched-none b s in
-    rw none (omega arith))
-    (cases_lt 0 n)
+touched-ceil b s n some edge = grind (arith, touched-more b s n, touched-full b s n, touched-empty b s n, div_ceil_times n b)
 
 module _ (b : ℕ) (at : ℕ → ℕ → ℕ) (xs : List ℕ) (window : Window) (want : Bool) (some : 0 < b) (has : HasWindow b xs window) (edge : 0 < window.len → window.start % b ≡ 0) where
   pub HasWindow-touched : HasWindow b xs (elements_window b (window.start / b) (div_ceil window.len b))
@@ -261,7 +220,6 @@ module _ (b : ℕ) (at : ℕ → ℕ → ℕ) (xs : List ℕ) (window : Window) 
       let most = mul-le-mul_left b (let h : window.start / b + div_ceil window.len b ≤ length xs = omega arith in h) in
       record { fits = has.fits; within = record { start = omega arith; len = omega arith } })
       (λ (empty : window.len ≤ 0).
-      let few : div_ceil window.len b < 1 = lt_of_mul-lt-mul_right b (omega arith) in
       let none : div_ceil window.len b ≡ 0 = omega arith in
       rw none (record { fits = has.fits; within = record { start = omega arith; len = omega arith } }))
       (cases_lt 0 window.len)
@@ -275,7 +233,6 @@ module _ (b : ℕ) (at : ℕ → ℕ → ℕ) (xs : List ℕ) (window : Window) 
       ⊎_elim
       (λ (more : 0 < window.len).
       let first = edge more in
-      let place = div-add-mod' window.start b in
       list-same b at xs from_edge window (omega arith) refl)
       (λ (empty : window.len ≤ 0). list-empty b at xs window (omega arith) ∙ sym (list-empty b at xs from_edge (omega arith)))
       (cases_lt 0 window.len)
@@ -325,7 +282,4 @@ module _ (b : ℕ) (at : ℕ → ℕ → ℕ) (xs : List ℕ) (window : Window) 
       (cases_lt i window.len)
 
   pub first-touched_all : first_loads b (elements_window b (window.start / b) (div_ceil window.len b)) None ≤ first_loads b window None
-  first-touched_all =
-      let all = touched-ceil b window.start window.len some edge in
-      let whole = touched-whole b (window.start / b) (div_ceil window.len b) some in
-      omega arith
+  first-touched_all = omega (arith, touched-ceil, touched-whole)

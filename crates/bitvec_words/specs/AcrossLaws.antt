@@ -1,9 +1,7 @@
 -- Words of 64 bits of a memory of elements of b bits.
-use Rattle.bitvec_words.specs.WordLaws.{padded-all, take-all, word_whole}
 use Rattle.std.specs.Prelude.{◌≡◌, ℕ, ◌+◌, ◌-◌, ◌*◌, ◌/◌, ◌%◌, ◌<◌, ◌≤◌, Bool, false, List, ◌++◌, length, take, drop, replicate, slice_index, slice_range}
 use Rattle.std.proofs.Common.{arith, rules, sym, ◌∙◌, ap}
 use Rattle.std.proofs.lemmas.List.{same_lists, places}
-use Rattle.std.proofs.lemmas.Nat.{div-add-mod'}
 use Rattle.bitvec_base.specs.declared.window.Window.{Window}
 use Rattle.bitvec_base.specs.Memory.{HasWindow, Writes, element_bits, list_in, memory_bits}
 use Rattle.bitvec_base.specs.MemoryLaws.{element-range, length-memory_bits}
@@ -38,9 +36,6 @@ taken-front list new s all = same_lists _ _ (search (rules, places)) (λ k d ins
 pub word-next : (b w : ℕ) (xs ys : List ℕ) (window : Window) → IsWidth b → w ≡ b → HasWindow b xs window → window.len ≡ 64 → b ≤ 64 → 0 < window.start % w → length ys ≡ length xs
     → window.start / w + 64 / w < length ys
 word-next b w xs ys window width is has size narrow inside same =
-    let high = has.within.len in
-    let whole = word_whole b width narrow in
-    let place = div-add-mod' window.start b in
     let more = rw is at inside in
     rw (is, same) (element_of b (window.start / b + 64 / b) (window.start % b - 1) (length xs) (omega arith))
 
@@ -57,8 +52,6 @@ pub first-values : (b : ℕ) (at : ℕ → ℕ → ℕ) (xs : List ℕ) (first c
     → take s (list_in b at xs (elements_window b first count)) ≡ take s (element_bits b at (slice_index xs first))
 unfolding window_of
 first-values b at xs first count s some inside has below more =
-    let low = has.within.start in
-    let high = has.within.len in
     let long = length-memory_bits b at xs in
     first-range (memory_bits b at xs) (first * b) b (count * b) s (omega arith) more (omega arith)
     ∙ ap (take s) (element-range b at xs first inside)

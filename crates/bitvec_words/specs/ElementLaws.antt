@@ -1,7 +1,8 @@
 -- The bits of what is made of two elements bit by bit.
-use Rattle.std.specs.Prelude.{◌≡◌, ℕ, ◌+◌, ◌%◌, ◌<◌, ◌==◌, zero, suc, min, max, Bool, false, ◌&&◌, ◌||◌, slice_index_or, bit_and, bit_or, bit_xor, refl}
+use Rattle.std.proofs.lemmas.Bool.Decides.{nat_tests}
+use Rattle.std.specs.Prelude.{◌≡◌, ℕ, ◌+◌, ◌%◌, ◌<◌, ◌==◌, min, max, Bool, ◌&&◌, ◌||◌, bit_and, bit_or, bit_xor}
 use Rattle.std.specs.Int.{bit_at}
-use Rattle.std.proofs.Common.{arith, sym, ◌∙◌, ap}
+use Rattle.std.proofs.Common.{arith, ◌∙◌, ap}
 use Rattle.std.proofs.lemmas.Nat.Bits.{bit_at_and, bit_at_or, bit_at_xor, bit_at-lt}
 use Rattle.bitvec_base.specs.Lists.{combined, differs}
 use Rattle.bitvec_base.specs.ListsLaws.{combined-is}
@@ -13,41 +14,17 @@ use Rattle.bitvec_base.specs.MemoryLaws.{length-element_bits, get-element_bits}
 -- a number each of whose bits is what f makes of those of two numbers
 pub element-combined : (b : ℕ) (at : ℕ → ℕ → ℕ) (f : Bool → Bool → Bool) (v w u : ℕ) → ((p : ℕ) → (bit_at u p == 1) ≡ f (bit_at v p == 1) (bit_at w p == 1)) → element_bits b at u ≡ combined f (element_bits b at v) (element_bits b at w)
 element-combined b at f v w u each =
-    let long = length-element_bits b at v in
-    let made = length-element_bits b at u in
-    combined-is f (element_bits b at v) (element_bits b at w) (element_bits b at u) (omega arith) (λ k inside.
-    let below : k < b = omega arith in
-    let left = get-element_bits b at v k false below in
-    let right = get-element_bits b at w k false below in
-    get-element_bits b at u k false below ∙ each (at b k) ∙ sym (ap (λ (c : Bool). f c (slice_index_or (element_bits b at w) k false)) left ∙ ap (f (bit_at v (at b k) == 1)) right))
+    combined-is f (element_bits b at v) (element_bits b at w) (element_bits b at u) (grind (arith, length-element_bits)) (λ k inside. grind (arith, each (at b k), length-element_bits, get-element_bits))
 
 -- two bits
 both : (c d : ℕ) → c < 2 → d < 2 → (min c d == 1) ≡ ((c == 1) && (d == 1))
-both zero zero hc hd = refl
-both zero (suc zero) hc hd = refl
-both zero (suc (suc d)) hc hd = absurd (omega arith)
-both (suc zero) zero hc hd = refl
-both (suc zero) (suc zero) hc hd = refl
-both (suc zero) (suc (suc d)) hc hd = absurd (omega arith)
-both (suc (suc c)) d hc hd = absurd (omega arith)
+both c d hc hd = grind (arith, nat_tests)
 
 either : (c d : ℕ) → c < 2 → d < 2 → (max c d == 1) ≡ ((c == 1) || (d == 1))
-either zero zero hc hd = refl
-either zero (suc zero) hc hd = refl
-either zero (suc (suc d)) hc hd = absurd (omega arith)
-either (suc zero) zero hc hd = refl
-either (suc zero) (suc zero) hc hd = refl
-either (suc zero) (suc (suc d)) hc hd = absurd (omega arith)
-either (suc (suc c)) d hc hd = absurd (omega arith)
+either c d hc hd = grind (arith, nat_tests)
 
 one : (c d : ℕ) → c < 2 → d < 2 → ((c + d) % 2 == 1) ≡ differs (c == 1) (d == 1)
-one zero zero hc hd = refl
-one zero (suc zero) hc hd = refl
-one (suc zero) zero hc hd = refl
-one (suc zero) (suc zero) hc hd = refl
-one zero (suc (suc d)) hc hd = absurd (omega arith)
-one (suc zero) (suc (suc d)) hc hd = absurd (omega arith)
-one (suc (suc c)) d hc hd = absurd (omega arith)
+one c d hc hd = grind (arith, nat_tests)
 
 pub element-and : (b : ℕ) (at : ℕ → ℕ → ℕ) (v w : ℕ) → element_bits b at (bit_and v w) ≡ combined ◌&&◌ (element_bits b at v) (element_bits b at w)
 element-and b at v w = element-combined b at ◌&&◌ v w (bit_and v w) (λ p. ap (λ (c : ℕ). c == 1) (bit_at_and v w p) ∙ both _ _ (bit_at-lt v p) (bit_at-lt w p))

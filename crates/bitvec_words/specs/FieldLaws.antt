@@ -1,10 +1,9 @@
 -- The bits of a window within one element or two, and of whole elements, as lists of bits of elements.
 use Rattle.std.specs.Prelude.{◌≡◌, ℕ, ◌+◌, ◌-◌, ◌*◌, ◌/◌, ◌%◌, ◌<◌, ◌≤◌, Bool, false, List, [], ◌++◌, length, take, drop, replicate, slice_range, slice_set, slice_index, min, refl}
-use Rattle.std.proofs.Common.{arith, rules, sym, ◌∙◌, ap, ⊎_elim}
-use Rattle.std.proofs.lemmas.Bool.{cases_lt}
+use Rattle.std.proofs.Common.{arith, rules, sym, ◌∙◌, ap}
 use Rattle.std.proofs.Math.Nat.{mul-le-mul_left}
 use Rattle.std.proofs.lemmas.List.{same_lists, places, length-set}
-use Rattle.std.proofs.lemmas.Nat.{div-add-mod', mod_below}
+use Rattle.std.proofs.lemmas.Nat.{div-add-mod'}
 use Rattle.bitvec_base.specs.declared.part.Part.{Part}
 use Rattle.bitvec_base.specs.declared.window.Window.{Window}
 use Rattle.bitvec_base.specs.Lists.{shifted_end, shifted_start}
@@ -16,7 +15,7 @@ use Rattle.bitvec_base.specs.SliceLaws.{range-all, range-none}
 use Rattle.bitvec_base.specs.Window.{window_after, window_of, window_until, write_at}
 use Rattle.bitvec_base.specs.WriteLaws.{length-slice_range, write_at-all}
 use Rattle.bitvec_base.specs.WritesLaws.{Writes-empty, Writes-is, Writes-join, list-join}
-use Rattle.bitvec_cells.specs.WalkLaws.{first-len, first-place}
+use Rattle.bitvec_cells.specs.WalkLaws.{first-place}
 use Rattle.bitvec_words.specs.Elements.{elements_window}
 
 -- ---- lists
@@ -38,7 +37,7 @@ range-shifted list k n e end inside = same_lists _ _ (search (rules, places)) (�
 
 -- an element that has a place of the memory
 pub element_of : (b e k n : ℕ) → e * b + k < b * n → e < n
-element_of b e k n below = ⊎_elim (λ (less : e < n). less) (λ (most : n ≤ e). let order = mul-le-mul_left b most in absurd (omega arith)) (cases_lt e n)
+element_of b e k n below = grind arith
 
 -- ---- fields
 
@@ -70,10 +69,8 @@ list-across b at xs window some has fits over =
     let start = has.within.start in
     let len = has.within.len in
     let place = div-add-mod' window.start b in
-    let head = mod_below window.start b some in
     let inside : e < length xs = element_of b e k (length xs) (omega arith) in
     let next : e + 1 < length xs = element_of b (e + 1) (k + window.len - b - 1) (length xs) (omega arith) in
-    let fit = element_fits b e (length xs) inside in
     let second = element_fits b (e + 1) (length xs) next in
     let third : (e + 1) * b ≡ e * b + b = omega arith in
     let after = rw third at (element-range b at xs (e + 1) next) in
@@ -84,11 +81,7 @@ list-across b at xs window some has fits over =
 -- a part of an element, as a window
 pub list-part : (b : ℕ) (at : ℕ → ℕ → ℕ) (xs : List ℕ) (part : Part) → HasPart b xs part → list_in b at xs (part_window b part) ≡ slice_range (element_bits b at (slice_index xs part.element)) part.from part.to
 unfolding window_of
-list-part b at xs part has =
-    let order = has.order in
-    let end : part.element * b + part.from + (part.to - part.from) ≡ part.element * b + part.to = omega arith in
-    ap (λ (e : ℕ). slice_range (memory_bits b at xs) (part.element * b + part.from) e) end
-    ∙ sym (part-range b at xs part.element part.from part.to has.element has.bound)
+list-part b at xs part has = grind (arith, part-range b at xs part.element part.from part.to)
 
 -- an element that takes a part's bits from another
 pub part-stored : (b : ℕ) (at : ℕ → ℕ → ℕ) (xs : List ℕ) (part : Part) (v w : ℕ) → 0 < b → HasPart b xs part
@@ -96,8 +89,7 @@ pub part-stored : (b : ℕ) (at : ℕ → ℕ → ℕ) (xs : List ℕ) (part : P
     → Writes b at xs (slice_set xs part.element w) (part_window b part) (slice_range (element_bits b at v) part.from part.to)
 part-stored b at xs part v w some has wrote =
     let bound = has.bound in
-    let inner = length-element_bits b at v in
-    let long = length-slice_range (element_bits b at v) part.from part.to (omega arith) in
+    let long = length-slice_range (element_bits b at v) part.from part.to (omega (arith, length-element_bits)) in
     record {
       bits = part-write b at xs part.element part.from part.to w _ some has.element has.order has.bound long wrote;
       long = long;
@@ -108,7 +100,6 @@ part-stored b at xs part v w some has wrote =
 pub part-all : (b : ℕ) (at : ℕ → ℕ → ℕ) (xs : List ℕ) (part : Part) (v : ℕ) → 0 < b → HasPart b xs part → part.to - part.from ≡ b
     → Writes b at xs (slice_set xs part.element v) (part_window b part) (slice_range (element_bits b at v) part.from part.to)
 part-all b at xs part v some has all =
-    let bound = has.bound in
     let old = length-element_bits b at (slice_index xs part.element) in
     let new = length-element_bits b at v in
     let first : part.from ≡ 0 = omega arith in
@@ -132,23 +123,21 @@ Writes-none b at xs ys window other has empty none =
 -- no element
 pub Writes-no_element : (b : ℕ) (at : ℕ → ℕ → ℕ) (xs ys : List ℕ) (first count : ℕ) (none : Window) → HasWindow b xs (elements_window b first count) → none.len ≡ 0 → Writes b at xs xs (elements_window b first 0) (list_in b at ys none)
 Writes-no_element b at xs ys first count none has empty =
-    let start = has.within.start in
     let nothing : 0 * b ≡ 0 = omega arith in
-    Writes-none b at xs ys (elements_window b first 0) none (record { fits = has.fits; within = record { start = start; len = omega arith } }) nothing empty
+    Writes-none b at xs ys (elements_window b first 0) none (record { fits = has.fits; within = record { start = has.within.start; len = omega arith } }) nothing empty
 
 -- one element more, stored behind those that were
 pub Writes-element : (b : ℕ) (at : ℕ → ℕ → ℕ) (old mid : List ℕ) (first count step v : ℕ) (list : List Bool) → 0 < b → HasWindow b old (elements_window b first count) → step < count
     → Writes b at old mid (elements_window b first step) list
     → Writes b at old (slice_set mid (first + step) v) (elements_window b first (step + 1)) (list ++ element_bits b at v)
 Writes-element b at old mid first count step v list some has more before =
-    let start = has.within.start in
     let len = has.within.len in
     let kept = before.elements in
     let order = mul-le-mul_left b more in
     let inside : first + step < length mid = element_of b (first + step) 0 (length mid) (rw kept (omega arith)) in
     let one : Window = record { start = (first + step) * b; len = b } in
     Writes-join b at old mid (slice_set mid (first + step) v) (elements_window b first step) one (elements_window b first (step + 1)) list (element_bits b at v)
-    (record { fits = has.fits; within = record { start = start; len = omega arith } })
+    (record { fits = has.fits; within = record { start = has.within.start; len = omega arith } })
     refl (omega arith) (omega arith) before
     (record {
       bits = set-element b at mid (first + step) v some inside;
@@ -165,7 +154,6 @@ pub list-both : (b : ℕ) (at : ℕ → ℕ → ℕ) (xs : List ℕ) (e skip : �
 unfolding window_of
 list-both b at xs e skip below next =
     let whole = length-memory_bits b at xs in
-    let fit = element_fits b e (length xs) (omega arith) in
     let second = element_fits b (e + 1) (length xs) next in
     let third : (e + 1) * b ≡ e * b + b = omega arith in
     let after = rw third at (element-range b at xs (e + 1) next) in
@@ -176,17 +164,14 @@ list-both b at xs e skip below next =
 pub list-element : (b : ℕ) (at : ℕ → ℕ → ℕ) (xs : List ℕ) (first count step : ℕ) → 0 < b → HasWindow b xs (elements_window b first count) → step < count
     → list_in b at xs (elements_window b first step) ++ element_bits b at (slice_index xs (first + step)) ≡ list_in b at xs (elements_window b first (step + 1))
 list-element b at xs first count step some has more =
-    let start = has.within.start in
     let len = has.within.len in
     let order = mul-le-mul_left b more in
     let inside : first + step < length xs = element_of b (first + step) 0 (length xs) (omega arith) in
     let one : Window = record { start = (first + step) * b; len = b } in
     ap (λ (l : List Bool). list_in b at xs (elements_window b first step) ++ l) (sym (list-whole b at xs (first + step) inside))
     ∙ list-join b at xs (elements_window b first step) one (elements_window b first (step + 1))
-    (record { fits = has.fits; within = record { start = start; len = omega arith } })
+    (record { fits = has.fits; within = record { start = has.within.start; len = omega arith } })
     refl (omega arith) (omega arith)
-
--- ---- a window that begins where an element does: its whole elements, and what is left
 
 -- ---- a window by the part of its first element, of t places, and what is left
 
@@ -194,7 +179,6 @@ pub Writes-head : (b : ℕ) (at : ℕ → ℕ → ℕ) (old mid new : List ℕ) 
     → Writes b at old mid (part_window b (first_part_of b window)) list → Writes b at mid new (window_after t window) other → Writes b at old new window (list ++ other)
 Writes-head b at old mid new window t list other some more part has before after =
     let place = first-place b window in
-    let len = first-len b window some more in
     Writes-join b at old mid new (part_window b (first_part_of b window)) (window_after t window) window list other has place (omega arith) (omega arith) before after
 
 -- the first t bits of a window, and the others

@@ -24,10 +24,9 @@ replicate-parts n m all bit sum = replicate-append-replicate n m bit ∙ replica
 
 pub Writes-none_filled : (b : ℕ) (at : ℕ → ℕ → ℕ) (xs : List ℕ) (first count : ℕ) (bit : Bool) → HasWindow b xs (elements_window b first count) → Writes b at xs xs (elements_window b first 0) (replicate (0 * b) bit)
 Writes-none_filled b at xs first count bit has =
-    let start = has.within.start in
     let none : 0 * b ≡ 0 = omega arith in
     Writes-is b at xs xs (elements_window b first 0) _ _
-    (Writes-empty b at xs xs (elements_window b first 0) (record { fits = has.fits; within = record { start = start; len = omega arith } }) none refl)
+    (Writes-empty b at xs xs (elements_window b first 0) (record { fits = has.fits; within = record { start = has.within.start; len = omega arith } }) none refl)
     (replicate-is 0 (0 * b) bit (sym none))
 
 pub Writes-filled : (b : ℕ) (at : ℕ → ℕ → ℕ) → Permutes b (at b) → (old mid : List ℕ) (first count step : ℕ) (bit : Bool) → 0 < b → HasWindow b old (elements_window b first count) → step < count
@@ -41,9 +40,8 @@ Writes-filled b at p old mid first count step bit some has more before =
 
 pub Writes-none_flipped : (b : ℕ) (at : ℕ → ℕ → ℕ) (xs : List ℕ) (first count : ℕ) → HasWindow b xs (elements_window b first count) → Writes b at xs xs (elements_window b first 0) (map not (list_in b at xs (elements_window b first 0)))
 Writes-none_flipped b at xs first count has =
-    let start = has.within.start in
     let none : 0 * b ≡ 0 = omega arith in
-    let here : HasWindow b xs (elements_window b first 0) = record { fits = has.fits; within = record { start = start; len = omega arith } } in
+    let here : HasWindow b xs (elements_window b first 0) = record { fits = has.fits; within = record { start = has.within.start; len = omega arith } } in
     let nothing = list-empty b at xs (elements_window b first 0) none in
     Writes-is b at xs xs (elements_window b first 0) _ _
     (Writes-empty b at xs xs (elements_window b first 0) here none refl)

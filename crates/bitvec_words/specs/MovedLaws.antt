@@ -1,9 +1,9 @@
 -- Fields moved within and between elements, and joined.
-use Rattle.std.specs.Prelude.{◌≡◌, ℕ, ◌+◌, ◌-◌, ◌*◌, ◌/◌, ◌%◌, ◌^◌, ◌<◌, ◌≤◌, ◌⊎◌, ◌==◌, ◌||◌, if◌then◌else◌, Bool, true, false, List, [], ◌++◌, length, take, replicate, slice_range, slice_index_or, bit_and, bit_or, refl}
+use Rattle.std.proofs.Math.Bool.{or-false, false-or}
+use Rattle.std.specs.Prelude.{◌≡◌, ℕ, ◌+◌, ◌-◌, ◌*◌, ◌/◌, ◌%◌, ◌^◌, ◌<◌, ◌≤◌, ◌⊎◌, ◌==◌, ◌||◌, if◌then◌else◌, Bool, true, false, List, [], ◌++◌, length, take, replicate, slice_range, bit_and, bit_or}
 use Rattle.std.specs.Int.{bit_at}
-use Rattle.std.proofs.Common.{arith, rules, sym, ◌∙◌, ap, ⊎_elim, inl, inr, length-append}
-use Rattle.std.proofs.lemmas.Bool.{cases_lt}
-use Rattle.std.proofs.lemmas.List.{same_lists, places, length-replicate, get_or-replicate}
+use Rattle.std.proofs.Common.{arith, rules, sym, ◌∙◌, ap, ⊎_elim, inl, inr}
+use Rattle.std.proofs.lemmas.List.{same_lists, places}
 use Rattle.std.proofs.lemmas.Nat.{and_mask, mod_below, pow_pos, shl_whole, shr_split}
 use Rattle.std.proofs.lemmas.Nat.Bits.{ones_shr, bit_at-zero, bit_at_above, bit_at_cat_low, bit_at_cat_high}
 use Rattle.std.proofs.Math.Pow.{pow_mono}
@@ -14,7 +14,7 @@ use Rattle.bitvec_base.specs.MemoryLaws.{get-element_bits, length-element_bits, 
 use Rattle.bitvec_base.specs.PartLaws.{element-none}
 use Rattle.bitvec_base.specs.ShiftLaws.{bit_at_shr}
 use Rattle.bitvec_base.specs.Window.{write_at}
-use Rattle.bitvec_base.specs.WriteLaws.{get-slice_range, get-write_at_above, get-write_at_below, get-write_at_inside, length-slice_range, range-write_at}
+use Rattle.bitvec_base.specs.WriteLaws.{get-slice_range, length-slice_range, range-write_at}
 use Rattle.bitvec_words.specs.ElementLaws.{element-or}
 use Rattle.bitvec_words.specs.ShortWindow.{lowest_bit, padded}
 use Rattle.bitvec_words.specs.OrderEnd.{RunsFrom}
@@ -24,24 +24,11 @@ use Rattle.bitvec_words.specs.OrderEnd.{RunsFrom}
 -- the bits of a number's `len` bits from `down` on, moved to `up`
 cut-inside : (v down len up p : ℕ) → up ≤ p → p < len + up → bit_at (v / 2 ^ down % 2 ^ len * 2 ^ up) p ≡ bit_at v (p - up + down)
 cut-inside v down len up p low high =
-    let shifted = v / 2 ^ down in
-    let word = shifted % 2 ^ len in
-    let none : word * 2 ^ up + 0 ≡ word * 2 ^ up = omega arith in
-    sym (ap (λ (n : ℕ). bit_at n p) none)
-    ∙ bit_at_cat_high word up 0 p (pow_pos up) low
-    ∙ sym (bit_at_cat_low (shifted / 2 ^ len) len word (p - up) (omega arith))
-    ∙ ap (λ (n : ℕ). bit_at n (p - up)) (shr_split shifted len)
-    ∙ bit_at_shr v down (p - up)
+    grind (arith, bit_at_cat_high (v / 2 ^ down % 2 ^ len) up 0 p, pow_pos up, bit_at_cat_low (v / 2 ^ down / 2 ^ len) len (v / 2 ^ down % 2 ^ len) (p - up), shr_split (v / 2 ^ down) len, bit_at_shr v down (p - up))
 
 cut-outside : (v down len up p : ℕ) → (p < up) ⊎ (len + up ≤ p) → bit_at (v / 2 ^ down % 2 ^ len * 2 ^ up) p ≡ 0
 cut-outside v down len up p out =
-    let word = v / 2 ^ down % 2 ^ len in
-    let none : word * 2 ^ up + 0 ≡ word * 2 ^ up = omega arith in
-    sym (ap (λ (n : ℕ). bit_at n p) none)
-    ∙ ⊎_elim
-    (λ (below : p < up). bit_at_cat_low word up 0 p below ∙ bit_at-zero p)
-    (λ (above : len + up ≤ p). bit_at_cat_high word up 0 p (pow_pos up) (omega arith) ∙ bit_at_above word len (p - up) (mod_below (v / 2 ^ down) (2 ^ len) (pow_pos len)) (omega arith))
-    out
+    grind (arith, bit_at_cat_low (v / 2 ^ down % 2 ^ len) up 0 p, bit_at_cat_high (v / 2 ^ down % 2 ^ len) up 0 p, pow_pos up, bit_at-zero p, bit_at_above (v / 2 ^ down % 2 ^ len) len (p - up), mod_below (v / 2 ^ down) (2 ^ len), pow_pos len)
 
 masked_field : (t v len : ℕ) → len ≤ t → bit_and v ((2 ^ t - 1) / 2 ^ (t - len)) ≡ v % 2 ^ len
 masked_field t v len narrow =
@@ -56,9 +43,8 @@ cut-masked t u v down len up narrow fits =
 
 pub cut-fits : (t u v down len : ℕ) → len ≤ t → len ≤ u → bit_and (v / 2 ^ down) ((2 ^ t - 1) / 2 ^ (t - len)) < 2 ^ u
 cut-fits t u v down len narrow fits =
-    let below = mod_below (v / 2 ^ down) (2 ^ len) (pow_pos len) in
     let most : 2 ^ len ≤ 2 ^ u = pow_mono fits in
-    rw (masked_field t (v / 2 ^ down) len narrow) (omega arith)
+    rw (masked_field t (v / 2 ^ down) len narrow) (omega (arith, mod_below (v / 2 ^ down) (2 ^ len) (pow_pos len)))
 
 -- no bits are 0
 cut-none : (v down up : ℕ) → 0 ≡ v / 2 ^ down % 2 ^ 0 * 2 ^ up
@@ -140,45 +126,11 @@ pub written-padded : (b : ℕ) (list : List Bool) → length list ≤ b → writ
 unfolding write_at padded
 written-padded b list fits = same_lists _ _ (search (rules, places)) (λ k d inside. grind (arith, places))
 
-padded-inside : (b : ℕ) (list : List Bool) (k : ℕ) (d : Bool) → k < length list → slice_index_or (padded b list) k d ≡ slice_index_or list k d
-unfolding padded
-padded-inside b list k d inside = grind (arith, places)
-
-padded-behind : (b : ℕ) (list : List Bool) (k : ℕ) (d : Bool) → length list ≤ k → k < b → slice_index_or (padded b list) k d ≡ false
-unfolding padded
-padded-behind b list k d behind below = grind (arith, places, get_or-replicate)
-
-or_false : (x y z : Bool) → x ≡ z → y ≡ false → (x || y) ≡ z
-or_false true y z same none = same
-or_false false y z same none = none ∙ same
-
-false_or : (x y z : Bool) → x ≡ false → y ≡ z → (x || y) ≡ z
-false_or x y z none same = rw (none, same) refl
-
 -- zeros but for a list behind another, taken together with that
 padded-joined : (b n : ℕ) (list part : List Bool) → n ≡ length list → n + length part ≤ b → combined ◌||◌ (padded b list) (write_at (replicate b false) n part) ≡ padded b (list ++ part)
+unfolding padded write_at
 padded-joined b n list part long fits =
-    let zeros = length-replicate b false in
-    let both = length-append list part in
-    let first = length-padded b list (omega arith) in
-    let whole = length-padded b (list ++ part) (omega arith) in
-    sym (combined-is ◌||◌ (padded b list) (write_at (replicate b false) n part) (padded b (list ++ part)) (omega arith) (λ k inside.
-    let below : k < b = omega arith in
-    ⊎_elim
-    (λ (before : k < n).
-    padded-inside b (list ++ part) k false (omega arith)
-    ∙ grind (arith, places)
-    ∙ sym (or_false _ _ _ (padded-inside b list k false (omega arith)) (get-write_at_below (replicate b false) n part k false (omega arith) before ∙ get_or-replicate b k false false below)))
-    (λ (low : n ≤ k). ⊎_elim
-    (λ (high : k < n + length part).
-    padded-inside b (list ++ part) k false (omega arith)
-    ∙ grind (arith, places)
-    ∙ sym (false_or _ _ _ (padded-behind b list k false (omega arith) below) (get-write_at_inside (replicate b false) n part k false (omega arith) low high)))
-    (λ (past : n + length part ≤ k).
-    padded-behind b (list ++ part) k false (omega arith) below
-    ∙ sym (false_or _ _ _ (padded-behind b list k false (omega arith) below) (get-write_at_above (replicate b false) n part k false (omega arith) past ∙ get_or-replicate b k false false below)))
-    (cases_lt k (n + length part)))
-    (cases_lt k n)))
+    sym (combined-is ◌||◌ _ _ (padded b (list ++ part)) (search (rules, places)) (λ k inside. grind (arith, places, or-false, false-or)))
 
 -- the bits of one element, and behind them those of another
 pub element-joined : (b : ℕ) (at : ℕ → ℕ → ℕ) (v w n : ℕ) (list part : List Bool) → n ≡ length list → n + length part ≤ b

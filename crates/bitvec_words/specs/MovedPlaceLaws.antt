@@ -1,7 +1,6 @@
 -- Where elements, parts and windows lie, as calls need it. A width comes as `w`, the number in the code, which is `b`.
 use Rattle.std.proofs.Common.{◌≡◌, ◌≢◌, ℕ, ◌+◌, ◌-◌, ◌*◌, ◌/◌, ◌%◌, ◌^◌, ◌<◌, ◌≤◌, min, List, length, refl, arith}
 use Rattle.std.proofs.Math.Nat.{mul-le-mul_left}
-use Rattle.std.proofs.lemmas.Nat.{div-add-mod', mod_below}
 use Rattle.bitvec_base.specs.declared.part.Part.{Part}
 use Rattle.bitvec_base.specs.declared.window.Window.{Window}
 use Rattle.bitvec_base.specs.Memory.{HasWindow}
@@ -16,7 +15,7 @@ use Rattle.bitvec_words.specs.FieldLaws.{element_of}
 use Rattle.bitvec_words.specs.PartWalkLaws.{HasPart-first}
 use Rattle.bitvec_words.specs.TouchedLaws.{head_edge}
 use Rattle.bitvec_words.specs.Moves.{HasPartSpan}
-use Rattle.bitvec_words.specs.WordLaws.{fits-word, inside, inside-word, width-some}
+use Rattle.bitvec_words.specs.WordLaws.{fits-word}
 
 pub head-part : (b w : ℕ) (xs : List ℕ) (window : Window) (part : Part) → IsWidth b → w ≡ b → part ≡ first_part_of w window → 0 < window.len → HasWindow b xs window
     → HasPart b xs part
@@ -33,8 +32,6 @@ behind-edge b t window rest width made long left = rw made (head_edge b window.s
 pub whole-window : (b w : ℕ) (xs : List ℕ) (window : Window) (n : ℕ) → IsWidth b → w ≡ b → HasWindow b xs window → window.start % b ≡ 0 → n ≤ window.len
     → HasWindow b xs (elements_window b (window.start / w) (n / w))
 whole-window b w xs window n width is has edge short =
-    let place = div-add-mod' window.start b in
-    let parts = div-add-mod' n b in
     let start = has.within.start in
     let len = has.within.len in
     rw is (record { fits = has.fits; within = record { start = omega arith; len = omega arith } })
@@ -42,8 +39,6 @@ whole-window b w xs window n width is has edge short =
 pub whole-window_from : (b w : ℕ) (xs : List ℕ) (window : Window) (n : ℕ) → IsWidth b → w ≡ b → HasWindow b xs window → n ≤ window.len
     → HasWindow b xs (elements_window_from b (window.start / w) (window.start % w) (n / w))
 whole-window_from b w xs window n width is has short =
-    let place = div-add-mod' window.start b in
-    let parts = div-add-mod' n b in
     let start = has.within.start in
     let len = has.within.len in
     rw is (record { fits = has.fits; within = record { start = omega arith; len = omega arith } })
@@ -71,10 +66,7 @@ whole-span_from b w xs ys left right width is span edge =
 pub tail-inside : (b w : ℕ) (xs : List ℕ) (window : Window) (n : ℕ) → IsWidth b → w ≡ b → HasWindow b xs window → n ≤ window.len → 0 < n % w
     → window.start / w + n / w < length xs
 tail-inside b w xs window n width is has short left =
-    let place = div-add-mod' window.start b in
-    let parts = div-add-mod' n b in
     let start = has.within.start in
-    let len = has.within.len in
     let more = rw is at left in
     rw is (element_of b (window.start / b + n / b) 0 (length xs) (omega arith))
 
@@ -83,7 +75,6 @@ pub tail-part : (b w : ℕ) (xs ys : List ℕ) (window : Window) (n : ℕ) → I
     → HasPart b ys (record { element = window.start / w + n / w; from = 0; to = n % w })
 tail-part b w xs ys window n width is has short left same =
     let inside = tail-inside b w xs window n width is has short left in
-    let below = mod_below n b (width_some b width) in
     let bound : n % w ≤ b = rw is (omega arith) in
     record { element = omega arith; order = omega arith; bound = bound }
 
@@ -91,7 +82,6 @@ pub tail-span : (b w : ℕ) (xs mid ys : List ℕ) (left right : Window) → IsW
     → HasPartSpan b mid ys (tail_part_of w left) (window_after (left.len / w * w) right)
 tail-span b w xs mid ys left right width is span more same =
     let lengths = span.lengths in
-    let parts = div-add-mod' left.len w in
     let start = span.beside.within.start in
     let len = span.beside.within.len in
     record {
@@ -101,21 +91,12 @@ tail-span b w xs mid ys left right width is span more same =
       some = omega arith;
     }
 
-pub tail-word : (b w : ℕ) (xs : List ℕ) (window : Window) (n : ℕ) → IsWidth b → w ≡ b → HasWindow b xs window → n ≤ window.len → 0 < n % w
-    → window.start / w + n / w < 2 ^ 64
-tail-word b w xs window n width is has short left =
-    let inside = tail-inside b w xs window n width is has short left in
-    fits-word b (window.start / w + n / w) xs window width has (omega arith)
-
 -- ---- an element of a window of whole elements, and the next one where the window begins inside an element
 
 pub next-inside : (b : ℕ) (xs ys : List ℕ) (first skip count i : ℕ) → HasWindow b xs (elements_window_from b first skip count) → 0 < skip → i < count → length ys ≡ length xs
     → first + i + 1 < length ys
 next-inside b xs ys first skip count i has some more same =
-    let start = has.within.start in
-    let len = has.within.len in
-    let order = mul-le-mul_left b more in
-    rw same (element_of b (first + i + 1) (skip - 1) (length xs) (omega arith))
+    rw same (element_of b (first + i + 1) (skip - 1) (length xs) (omega (arith, mul-le-mul_left b more)))
 
 pub next-word : (b : ℕ) (xs : List ℕ) (first skip count i : ℕ) → IsWidth b → HasWindow b xs (elements_window_from b first skip count) → 0 < skip → i < count → first + i + 1 < 2 ^ 64
 next-word b xs first skip count i width has some more =
@@ -125,10 +106,7 @@ next-word b xs first skip count i width has some more =
 pub from-inside : (b : ℕ) (xs ys : List ℕ) (first skip count i : ℕ) → HasWindow b xs (elements_window_from b first skip count) → 0 < skip → i ≤ count → length ys ≡ length xs
     → first + i < length ys
 from-inside b xs ys first skip count i has some most same =
-    let start = has.within.start in
-    let len = has.within.len in
-    let order = mul-le-mul_left b most in
-    rw same (element_of b (first + i) (skip - 1) (length xs) (omega arith))
+    rw same (element_of b (first + i) (skip - 1) (length xs) (omega (arith, mul-le-mul_left b most)))
 
 pub from-word : (b : ℕ) (xs : List ℕ) (first skip count i : ℕ) → IsWidth b → HasWindow b xs (elements_window_from b first skip count) → 0 < skip → i ≤ count → first + i < 2 ^ 64
 from-word b xs first skip count i width has some most =

@@ -11,7 +11,7 @@ use Rattle.bitvec_base.specs.Window.{window_after, write_at}
 use Rattle.bitvec_base.specs.WriteLaws.{length-slice_range}
 use Rattle.bitvec_base.specs.WritesLaws.{Writes-is}
 use Rattle.bitvec_cells.specs.Walk.{Walked, passed}
-use Rattle.bitvec_cells.specs.WalkLaws.{Writes-next_part, first-len, length-first, length-passed, list-next}
+use Rattle.bitvec_cells.specs.WalkLaws.{Writes-next_part, length-first, length-passed, list-next}
 use Rattle.bitvec_words.specs.ShortWindow.{padded}
 use Rattle.bitvec_words.specs.FieldLaws.{list-part}
 use Rattle.bitvec_words.specs.MovedLaws.{element-joined, word-there, take-range}
@@ -25,10 +25,6 @@ HasWindow-rest b xs window rest has walk = let end = walk.end in HasWindow-part 
 pub HasPart-first : (b : ℕ) (xs : List ℕ) (window rest : Window) → 0 < b → 0 < rest.len → HasWindow b xs window → Walked b window rest → HasPart b xs (first_part_of b rest)
 HasPart-first b xs window rest some more has walk =
     let start = walk.start in
-    let end = walk.end in
-    let low = has.within.start in
-    let high = has.within.len in
-    let len = first-len b rest some more in
     record {
       element = div_below rest.start b (length xs) some (omega arith);
       order = omega arith;
@@ -45,7 +41,6 @@ word-next b at xs window rest t n word element moved some more size step count h
     let start = walk.start in
     let end = walk.end in
     let part = first_part_of b rest in
-    let len = first-len b rest some more in
     let before = length-passed b at xs window rest has walk in
     let next = length-first b at xs window rest some more has walk in
     let to : part.from + t ≡ part.to = omega arith in
@@ -65,9 +60,7 @@ pub Writes-next_field : (b : ℕ) (at : ℕ → ℕ → ℕ) (old mid new : List
     → Writes b at old new (passed window (window_after t rest)) (take (rest.start + t - window.start) (element_bits 64 at word))
 Writes-next_field b at old mid new window rest t n word element some more size step count has walk put before after =
     let start = walk.start in
-    let end = walk.end in
     let part = first_part_of b rest in
-    let len = first-len b rest some more in
     let wide = length-element_bits 64 at word in
     let zeros = length-replicate b false in
     let long = length-slice_range (element_bits 64 at word) n (n + t) (omega arith) in

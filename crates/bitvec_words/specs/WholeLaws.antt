@@ -1,9 +1,8 @@
 -- Whole elements of a window, from its first bit on, and what is behind them.
 use Rattle.std.specs.Prelude.{◌≡◌, ℕ, ◌+◌, ◌-◌, ◌*◌, ◌/◌, ◌%◌, ◌^◌, ◌<◌, ◌≤◌, true, Bool, List, [], length, refl}
-use Rattle.std.proofs.Common.{arith, ◌∙◌, ap, ⊎_elim}
-use Rattle.std.proofs.lemmas.Bool.{cases_lt}
-use Rattle.std.proofs.lemmas.Nat.{div-add-mod', mod_below, mod-mul-add}
-use Rattle.std.proofs.Math.Nat.{add-mul, le_of_mul-le-mul_right, mul-le-mul_left}
+use Rattle.std.proofs.Common.{arith, ◌∙◌, ap}
+use Rattle.std.proofs.lemmas.Nat.{div-add-mod', mod_below}
+use Rattle.std.proofs.Math.Nat.{le_of_mul-le-mul_right, add-mul-mod_self_right}
 use Rattle.bitvec_base.specs.declared.window.Window.{Window}
 use Rattle.bitvec_base.specs.Lists.{same_bits}
 use Rattle.bitvec_base.specs.Memory.{HasWindow, Writes, list_in, memory_bits}
@@ -16,47 +15,17 @@ use Rattle.bitvec_cells.specs.WalkLaws.{touched-none}
 
 -- m elements that a window of n bits has
 pub whole_fits : (b n m : ℕ) → m ≤ n / b → m * b ≤ n
-whole_fits b n m fits =
-    let all = div-add-mod' n b in
-    let order = mul-le-mul_left b fits in
-    omega arith
+whole_fits b n m fits = grind arith
 
 -- ---- behind m elements of b bits
 
 pub behind-mod : (b s m : ℕ) → 0 < b → (s + m * b) % b ≡ s % b
-behind-mod b s m some =
-    let place = div-add-mod' s b in
-    let same : s + m * b ≡ (s / b + m) * b + s % b = omega arith in
-    ap (λ (n : ℕ). n % b) same ∙ mod-mul-add (s / b + m) b (s % b) (mod_below s b some)
+behind-mod b s m some = add-mul-mod_self_right s m b
 
 -- a window that begins inside an element touches, beside that one, each of the whole elements behind it, and what is behind them
 pub touched-behind_from : (b s n m : ℕ) → 0 < b → 0 < s % b → m * b ≤ n → touched_count b s n - 1 ≡ m + (touched_count b (s + m * b) (n - m * b) - 1)
 touched-behind_from b s n m some inside fits =
-    let place = div-add-mod' s b in
-    let whole = rw place at (touched-from b (s / b) (s % b) m inside (mod_below s b some)) in
-    let all : m * b + (n - m * b) ≡ n = omega arith in
-    let phase = behind-mod b s m some in
-    ⊎_elim
-    (λ (more : 0 < n - m * b). ⊎_elim
-    (λ (elements : 0 < m * b).
-    let both = rw all at (touched-inside b s (m * b) (n - m * b) some elements (omega arith)) in
-    let first = touched-first b s (m * b) elements in
-    omega arith)
-    (λ (none : m * b ≤ 0).
-    let nothing : m * b ≡ 0 = omega arith in
-    let start : s + 0 ≡ s = omega arith in
-    let same : n - 0 ≡ n = omega arith in
-    let empty = touched-none b s in
-    let count = rw nothing at whole in
-    rw (nothing, start, same) (omega arith))
-    (cases_lt 0 (m * b)))
-    (λ (last : n - m * b ≤ 0).
-    let len : m * b ≡ n = omega arith in
-    let empty : n - m * b ≡ 0 = omega arith in
-    let none = touched-none b (s + m * b) in
-    let count = rw len at whole in
-    rw empty (omega arith))
-    (cases_lt 0 (n - m * b))
+    grind (arith, touched-inside b s (m * b) (n - m * b), touched-from b (s / b) (s % b) m, touched-first b s (m * b), touched-none b s, touched-none b (s + m * b), behind-mod b s m, div-add-mod' s b, mod_below s b)
 
 -- ---- windows
 
@@ -75,11 +44,7 @@ list-same b at xs window other start len = rw (start, len) refl
 
 -- a window's end is a `usize`
 pub window-end : (b : ℕ) (xs : List ℕ) (window : Window) → HasWindow b xs window → window.start + window.len < 2 ^ 64
-window-end b xs window has =
-    let fits = has.fits in
-    let start = has.within.start in
-    let len = has.within.len in
-    omega arith
+window-end b xs window has = omega arith
 
 -- no bits
 pub list-empty : (b : ℕ) (at : ℕ → ℕ → ℕ) (xs : List ℕ) (window : Window) → window.len ≡ 0 → list_in b at xs window ≡ []
@@ -101,11 +66,4 @@ HasWindow-part b xs window part has low high =
 -- the elements of a window of them lie in the memory
 pub elements-inside : (b : ℕ) (xs : List ℕ) (first n : ℕ) → 0 < b → HasWindow b xs (elements_window b first n) → first + n ≤ length xs
 elements-inside b xs first n some has =
-    let start = has.within.start in
-    let len = has.within.len in
-    let ends = add-mul first n b in
     le_of_mul-le-mul_right {m = first + n} {n = length xs} {k = b} (omega arith) some
-
--- ---- n whole elements behind m others
-
--- ---- the part of a window's first element

@@ -23,33 +23,22 @@ pub width-some : (b w : ℕ) → IsWidth b → w ≡ b → 0 < w
 width-some b w width is = rw is (width_some b width)
 
 pub fits-word : (b e : ℕ) (xs : List ℕ) (window : Window) → IsWidth b → HasWindow b xs window → e ≤ length xs → e < 2 ^ 64
-fits-word b e xs window width has inside =
-    let fits = has.fits in
-    let most = mul-le-mul_left (length xs) (width_some b width) in
-    omega arith
+fits-word b e xs window width has inside = omega (arith, mul-le-mul_left (length xs) (width_some b width))
 
 -- an element in a word
 pub word-place : (b w i : ℕ) → IsWidth b → w ≡ b → b ≤ 64 → i < 64 / w → i * w + w ≤ 64
-word-place b w i width is narrow more =
-    let whole = word_whole b width narrow in
-    let order = mul-le-mul_left b (rw is at more) in
-    rw is (omega arith)
+word-place b w i width is narrow more = rw is (omega (arith, mul-le-mul_left b (rw is at more)))
 
 -- ---- an element of a window of whole elements
 
 pub inside : (b : ℕ) (xs ys : List ℕ) (first count i : ℕ) → IsWidth b → HasWindow b xs (elements_window b first count) → i < count → length ys ≡ length xs
     → first + i < length ys
 inside b xs ys first count i width has more same =
-    let start = has.within.start in
-    let len = has.within.len in
-    let order = mul-le-mul_left b more in
-    let some = width_some b width in
-    rw same (element_of b (first + i) 0 (length xs) (omega arith))
+    rw same (element_of b (first + i) 0 (length xs) (omega (arith, mul-le-mul_left b more)))
 
 pub inside-word : (b : ℕ) (xs : List ℕ) (first count i : ℕ) → IsWidth b → HasWindow b xs (elements_window b first count) → i < count → first + i < 2 ^ 64
 inside-word b xs first count i width has more =
-    let here = inside b xs xs first count i width has more refl in
-    fits-word b (first + i) xs (elements_window b first count) width has (omega arith)
+    fits-word b (first + i) xs (elements_window b first count) width has (omega (arith, inside b xs xs first count i width has more refl))
 
 -- ---- lists
 

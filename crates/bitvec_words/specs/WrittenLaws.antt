@@ -1,8 +1,7 @@
 -- Elements replaced by others at once, as a write of their bits.
 use Rattle.std.specs.Prelude.{◌≡◌, ℕ, ◌+◌, ◌*◌, ◌<◌, ◌≤◌, Bool, List, ◌++◌, length, take, drop, slice_range, refl}
 use Rattle.std.proofs.Common.{arith, sym, ap, ◌∙◌}
-use Rattle.std.proofs.Math.Nat.{add-mul, mul-le-mul_right}
-use Rattle.bitvec_cells.specs.PutLaws.{part-numbers}
+use Rattle.std.proofs.Math.Nat.{mul-le-mul_right}
 use Rattle.bitvec_base.specs.Memory.{memory_bits}
 use Rattle.bitvec_base.specs.MemoryLaws.{length-memory_bits, memory-range}
 use Rattle.bitvec_base.specs.SliceLaws.{range-all, range-from_start, range-join, range-same, range-to_end}
@@ -27,8 +26,6 @@ memory-write_at b at xs new first some fits =
     let old-long = length-memory_bits b at xs in
     let now-long = length-memory_bits b at zs ∙ ap (λ (m : ℕ). b * m) long in
     let new-long = length-memory_bits b at new in
-    let ends = add-mul first (length new) b in
-    let low = mul-le-mul_right {m = first} {n = end} b (omega arith) in
     let high = mul-le-mul_right {m = end} {n = n} b fits in
     let front : slice_range now 0 (first * b) ≡ take (first * b) old =
     range-same now 0 (first * b) (0 * b) (first * b) (omega arith) refl

@@ -44,7 +44,7 @@ pub use filling::{fill, invert};
 pub use fronts::{bits_load_front, bits_lowest_first, gathered, words_load_front};
 pub use lanes::Lanes;
 pub use operator::BitOp;
-pub use part::{load_element, load_element_after, store_part};
+pub use part::{load_element, load_element_after, load_short, store_part, store_short};
 pub use scanning::{bits_scan_first, bits_scan_last};
 pub use scanning_words::words_scan_first;
 pub use stretch::Stretch;

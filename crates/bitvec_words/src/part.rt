@@ -1,14 +1,14 @@
-//! Bits of one element or two, loaded to the front of an element or stored behind a mask.
-ghost use Rattle.std.specs.Prelude.{◌≡◌, ◌+◌, ◌-◌, ◌/◌, slice_index, slice_range, take};
-ghost use Rattle.bitvec_base.specs.Memory.{Writes, element_bits, list_in};
+//! The bits of a window of at most an element's width, loaded to the front of an element and stored from there.
+ghost use Rattle.std.specs.Prelude.{◌≡◌, ◌+◌, ◌-◌, ◌/◌, ◌≤◌, slice_index, slice_range, take};
+ghost use Rattle.bitvec_base.specs.Memory.{HasWindow, Writes, element_bits, list_in};
 ghost use Rattle.bitvec_base.specs.Parts.{HasPart, part_window};
-ghost use Rattle.bitvec_cells.specs.Access.{Costs, OnlyReads};
+ghost use Rattle.bitvec_cells.specs.Access.{Costs, CostsAtMost, OnlyReads};
 ghost use Rattle.bitvec_cells.specs.Cost.{part_loads, touched_count};
 ghost use Rattle.bitvec_words.specs.ShortWindow.{HasShortWindow};
 
 use crate::WordOrder;
-use crate::element::{joined, merged, toward_start};
-use bitvec_base::{BitOrder, Part, Window};
+use crate::element::{joined, merged, toward_end, toward_start};
+use bitvec_base::{BitOrder, Part, Window, first_part};
 use bitvec_cells::{Cells, CellsRead};
 use bitvec_store::BitStore;
 
@@ -65,4 +65,46 @@ pub fn load_element_after<O: WordOrder, C: CellsRead>(
     }
     let second = cells.load(window.start / bits + 1);
     (joined::<O, C::Elem>(first, second, skip), second)
+}
+
+/// [`load_element`] of a window that may be empty, without the last element.
+pub fn load_short<O: WordOrder, C: CellsRead>(cells: &mut C, window: Window) -> C::Elem
+    requires window { HasWindow C.Elem.BITS (C.numbers cells.old) window }
+    requires bound { window.len ≤ C.Elem.BITS }
+    ensures value { take window.len (element_bits C.Elem.BITS O.at (C.Elem.value result))
+        ≡ list_in C.Elem.BITS O.at (C.numbers cells.old) window }
+    ensures reads { OnlyReads C.CellsRead cells.old cells.new (touched_count C.Elem.BITS window.start window.len) }
+{
+    if window.len == 0 {
+        return C::Elem::ZERO;
+    }
+    load_element::<O, C>(cells, window).0
+}
+
+/// A window of at most an element's width gets the first bits of an element, as many as it has; all other bits of the
+/// memory stay. Condition: the memory has at most `MAX_BITS` bits, and the window lies in it. It stores each element
+/// that the window touches once, and loads each at most once.
+#[inline(always)]
+pub fn store_short<O: WordOrder, C: Cells>(cells: &mut C, window: Window, element: C::Elem)
+    requires window { HasWindow C.Elem.BITS (C.numbers cells.old) window }
+    requires bound { window.len ≤ C.Elem.BITS }
+    ensures writes { Writes C.Elem.BITS O.at (C.numbers cells.old) (C.numbers cells.new) window
+        (take window.len (element_bits C.Elem.BITS O.at (C.Elem.value element))) }
+    ensures cost { let touched = touched_count C.Elem.BITS window.start window.len in
+        CostsAtMost C.CellsRead cells.old cells.new touched touched }
+{
+    if window.len == 0 {
+        return;
+    }
+    let head = first_part(C::Elem::BITS as usize, window);
+    store_part::<O, C>(cells, head, toward_end::<O, C::Elem>(element, head.from));
+    let count = head.len();
+    if count < window.len {
+        let tail = Part {
+            element: head.element + 1,
+            from: 0,
+            to: window.len - count,
+        };
+        store_part::<O, C>(cells, tail, toward_start::<O, C::Elem>(element, count));
+    }
 }

@@ -146,6 +146,22 @@ fn first_in_block<O: WordOrder, C: CellsRead>(
     }
     let (one, two) = (ordered::<O, C::Elem>(one), ordered::<O, C::Elem>(two));
     let (three, four) = (ordered::<O, C::Elem>(three), ordered::<O, C::Elem>(four));
+    first_of_four::<O>(one, two, three, four, want)
+}
+
+/// The first of four words.
+#[inline(always)]
+fn first_of_four<O: BitOrder>(
+    one: u64,
+    two: u64,
+    three: u64,
+    four: u64,
+    want: bool,
+) -> Option<usize>
+    ensures { result ≡ first_place want
+        ((element_bits 64 O.at one ++ element_bits 64 O.at two)
+        ++ (element_bits 64 O.at three ++ element_bits 64 O.at four)) }
+{
     if let Some(found) = first_of_two::<O, u64>(one, two, want) {
         return Some(found);
     }

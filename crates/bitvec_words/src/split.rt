@@ -1,7 +1,8 @@
 //! A window in two, split where an element begins.
-ghost use Rattle.std.specs.Prelude.{◌≡◌, ◌+◌, ◌-◌, ◌%◌, ◌^◌, ◌<◌};
+ghost use Rattle.std.specs.Prelude.{◌≡◌, ◌≢◌, ◌+◌, ◌-◌, ◌%◌, ◌^◌, ◌<◌};
 ghost use Rattle.bitvec_base.specs.Parts.{first_part_of, part_window};
 ghost use Rattle.bitvec_base.specs.Window.{window_after};
+ghost use Rattle.bitvec_cells.specs.Cost.{touched_count};
 ghost use Rattle.bitvec_words.specs.Elements.{elements_window};
 ghost use Rattle.bitvec_words.specs.Split.{IsPart, Split};
 
@@ -16,6 +17,9 @@ pub(crate) fn split_head<T: BitStore>(window: Window) -> (Part, Window)
     requires end { window.start + window.len < 2 ^ 64 }
     ensures split { Split T.BITS (part_window T.BITS result.0) result.1 window }
     ensures part { IsPart T.BITS result.0 }
+    ensures one { result.1.len ≡ 0 → touched_count T.BITS window.start window.len ≡ 1 }
+    ensures touched { touched_count T.BITS window.start window.len
+        ≡ 1 + touched_count T.BITS result.1.start result.1.len }
     ensures is_first { result.0 ≡ first_part_of T.BITS window }
     ensures is_behind { result.1 ≡ window_after (result.0.to - result.0.from) window }
 {
@@ -30,8 +34,9 @@ pub(crate) fn split_tail<T: BitStore>(window: Window) -> (usize, usize, Part)
     requires edge { window.start % T.BITS ≡ 0 }
     requires end { window.start + window.len < 2 ^ 64 }
     ensures split { Split T.BITS (elements_window T.BITS result.0 result.1) (part_window T.BITS result.2) window }
-    ensures from { result.2.from ≡ 0 }
-    ensures bound { result.2.to < T.BITS }
+    ensures part { result.2.to ≢ 0 → IsPart T.BITS result.2 }
+    ensures whole { result.2.to ≡ 0 → touched_count T.BITS window.start window.len ≡ result.1 }
+    ensures more { result.2.to ≢ 0 → touched_count T.BITS window.start window.len ≡ result.1 + 1 }
 {
     let bits = T::BITS as usize;
     let (first, count) = whole_elements(bits, window);

@@ -81,7 +81,6 @@ returns-clause-done g c =
     let count : ℕ = from.len / b in
     let passed : ℕ = count * b in
     let met = c.requires.met in
-    let lengths = met.lengths in
     let fits = whole_fits b from.len count (omega arith) in
     let place = div-add-mod' to.start b in
     let source = div-add-mod' from.start b in
@@ -106,7 +105,7 @@ returns-clause-right g c =
 
 pub act_on_part-requires-clause-part : goal.act_on_part-requires-clause-part
 act_on_part-requires-clause-part g c =
-    let left : 0 < c.args.from.len % c.BITS-bits.result = let parts = div-add-mod' c.args.from.len c.BITS-bits.result in let more = c.if-passed-from.false in omega arith in
+    let left : 0 < c.args.from.len % c.BITS-bits.result = let parts = div-add-mod' c.args.from.len c.BITS-bits.result in omega arith in
     let inside = tail-inside _ _ _ c.args.to _ g.met.C.Elem.BitStore.width_law c.BITS-bits.ensures c.requires.met.window c.requires.met.lengths left in
     let bound = tail-bound _ _ _ _ (width_some _ g.met.C.Elem.BitStore.width_law) c.requires.edge c.requires.met.reach c.requires.met.lengths in
     record { element = rw (g.met.A.Act.kept_law _ _ _ _ _ _ _ c.act_in_spans-last.ensures.done) inside; order = omega arith; bound = rw c.BITS-bits.ensures bound }

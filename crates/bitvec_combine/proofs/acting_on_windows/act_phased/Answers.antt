@@ -25,7 +25,6 @@ first-carry-requires g c = head-element _ _ _ c.args.from g.met.C.Elem.BitStore.
 
 pub act_on_part-carry-requires-clause-part : goal.act_on_part-carry-requires-clause-part
 act_on_part-carry-requires-clause-part g c =
-    let more = c.requires.met.some in let lengths = c.requires.met.lengths in
     head-part _ _ _ c.args.to _ g.met.C.Elem.BitStore.width_law c.BITS-bits.ensures c.first_part-head.ensures (omega arith) c.requires.met.window
 
 pub after-rest-requires-clause-bound : goal.after-rest-requires-clause-bound
@@ -56,8 +55,6 @@ act_on_part-carry-requires-clause-from g c =
     let to = c.args.to in let from = c.args.from in let t = c.len-passed.result in
     let some = width_some b g.met.C.Elem.BitStore.width_law in
     let met = c.requires.met in
-    let more = met.some in
-    let lengths = met.lengths in
     let below = mod_below to.start b some in
     let is = c.first_part-head.ensures ∙ ap (λ (n : ℕ). first_part_of n to) c.BITS-bits.ensures in
     let index : c.first_part-head.result.from ≡ to.start % b = ap (λ (p : Part). p.from) is in
@@ -76,7 +73,6 @@ returns-then-passed-to-clause-done g c =
     let to = c.args.to in let from = c.args.from in let t = c.len-passed.result in
     let some = width_some b g.met.C.Elem.BitStore.width_law in
     let met = c.requires.met in
-    let lengths = met.lengths in
     let step = first_part-long t b c.BITS-bits.result to c.first_part-head.result c.len-passed.ensures c.first_part-head.ensures c.BITS-bits.ensures in
     let done = rw c.first-carry.ensures.reads.numbers at c.act_on_part-carry.ensures.done in
     elim c.then-passed-to.branch [
@@ -141,7 +137,6 @@ returns-clause-done g c =
     let to = c.args.to in let from = c.args.from in
     let some = width_some b g.met.C.Elem.BitStore.width_law in
     let met = c.requires.met in
-    let lengths = met.lengths in
     let numbers = c.first-carry.ensures.reads.numbers in
     elim c.if-to-bits.branch [
       | then-to-bits+else-passed-to+else-stops w ↦
@@ -172,7 +167,6 @@ returns-clause-right g c =
           let step = first_part-long t b c.BITS-bits.result to w.first_part-head.result w.len-passed.ensures w.first_part-head.ensures c.BITS-bits.ensures in
           let more = (met-rest b _ _ _ to from t some c.requires.met refl step w.if-passed-to.false).some in
           let below = mod_below to.start b some in
-          let lengths = c.requires.met.lengths in
           let len : from.len - (from.len - w.min.result) ≡ t = omega arith in
           let head = rw (w.until-met.ensures, len) at w.act_on_part-carry.ensures.right in
           let all = touched-head b from.start t from.len g.P.Phases.equal some (omega arith) (omega arith) (rest-phases b to.start from.start t to.len _ some step w.if-passed-to.false c.requires.phases) in

@@ -1,16 +1,11 @@
 use Rattle.std.proofs.Common.{◌≡◌, ℕ, ◌+◌, ◌-◌, ◌*◌, ◌%◌, arith, refl, rules}
-use Rattle.bitvec_combine.proofs.StretchActs.{first-word, source-word, stretch-join, stretch-none, stretch-part}
+use Rattle.bitvec_combine.proofs.StretchActs.{stretch-join, stretch-none, stretch-part}
 use Rattle.bitvec_combine.proofs.acting_shifted.act_on_pairs.Goals as goal
 
 pub loop-pair-init : goal.loop-pair-init
 loop-pair-init g c =
     let start : c.args.stretch.source + 2 * 0 ≡ c.args.stretch.source = omega arith in
     record { done = stretch-none g.C.CellsRead.numbers g.A.Act.Done g.met.A.Act.empty_law (2 * 0) c.requires.stretch refl; carried = rw start c.requires.stretch.carried; right = search rules }
-
-pub part-two-requires : goal.part-two-requires
-part-two-requires g c =
-    let width = g.met.C.Elem.BitStore.width_law in
-    record { first = first-word _ width c.requires.stretch (omega arith); source = source-word _ width c.requires.stretch (omega arith) }
 
 pub act_carried-last-requires-clause-stretch : goal.act_carried-last-requires-clause-stretch
 act_carried-last-requires-clause-stretch g c =
@@ -29,11 +24,6 @@ loop-pair-preserved g c =
       carried = rw (next, end) (rw inv.right.numbers at acted.carried);
       right = search rules;
     }
-
-pub part-rest-requires : goal.part-rest-requires
-part-rest-requires g c =
-    let width = g.met.C.Elem.BitStore.width_law in
-    record { first = first-word _ width c.requires.stretch (omega arith); source = source-word _ width c.requires.stretch (omega arith) }
 
 pub act_carried-requires-clause-stretch : goal.act_carried-requires-clause-stretch
 act_carried-requires-clause-stretch g c =

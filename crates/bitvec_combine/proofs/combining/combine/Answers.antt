@@ -38,7 +38,6 @@ returns-clause-writes g c =
     let y = list_in b at ys (window_after met from) in
     let right = c.requires.right_window in
     let begin = right.within.start in
-    let end = right.within.len in
     let x_long = length-list b at ys (window_until (from.len - met) from) (record { fits = right.fits; within = record { start = begin; len = omega arith } }) in
     let y_long = length-list b at ys (window_after met from) (record { fits = right.fits; within = record { start = omega arith; len = omega arith } }) in
     Writes-both b at f _ _ _ (window_until (to.len - passed) to) (window_after passed to) to x [] (list_in b at ys from) c.requires.window refl (omega arith) (omega arith)

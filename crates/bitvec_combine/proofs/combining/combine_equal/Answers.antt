@@ -7,8 +7,6 @@ use Rattle.bitvec_combine.proofs.combining.combine_equal.Goals as goal
 pub act_phased-requires-clause-met : goal.act_phased-requires-clause-met
 act_phased-requires-clause-met g c =
     let below = mod_below (c.args.to.start + c.args.from.len) g.C.Elem.BitStore.BITS (width_some _ g.met.C.Elem.BitStore.width_law) in
-    let lengths = c.requires.span.lengths in
-    let more = c.requires.some in
     record { window = search rules; beside = search rules; some = omega arith; lengths = omega arith; inside = λ less. absurd (omega arith); reach = omega arith }
 
 pub returns-clause-writes : goal.returns-clause-writes

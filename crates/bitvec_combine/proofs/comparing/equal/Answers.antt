@@ -1,6 +1,4 @@
 use Rattle.std.proofs.Common.{arith}
-use Rattle.bitvec_base.specs.CompareLaws.{same-unequal}
-use Rattle.bitvec_base.specs.WritesLaws.{length-list}
 use Rattle.bitvec_combine.specs.DifferLaws.{equal_enough, equal_enough_right}
 use Rattle.bitvec_combine.proofs.CostLemmas.{reads-most}
 use Rattle.bitvec_combine.proofs.comparing.equal.Goals as goal
@@ -16,6 +14,3 @@ returns-clause-reads g c = reads-most c.equal_in_phases.ensures.reads (equal_eno
 
 pub returns-clause-right : goal.returns-clause-right
 returns-clause-right g c = reads-most c.equal_in_phases.ensures.right (equal_enough_right _ _ _ _ g.met.C.Elem.BitStore.width_law (omega arith))
-
-pub returns-then-window-other-clause-value : goal.returns-then-window-other-clause-value
-returns-then-window-other-clause-value g c = same-unequal _ _ _ _ (length-list _ _ _ _ c.requires.window) (length-list _ _ _ _ c.requires.right_window) c.if-window-other.true

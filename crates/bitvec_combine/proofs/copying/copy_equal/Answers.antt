@@ -4,4 +4,4 @@ use Rattle.bitvec_combine.specs.PutLaws.{Puts-beside}
 use Rattle.bitvec_combine.proofs.copying.copy_equal.Goals as goal
 
 pub returns-clause-writes : goal.returns-clause-writes
-returns-clause-writes g c = let lengths = c.requires.span.lengths in Puts-beside c.requires.span (c.until-as_long.ensures ∙ window-same _ c.args.from refl (omega arith)) c.act_phased.ensures.done
+returns-clause-writes g c = Puts-beside c.requires.span (c.until-as_long.ensures ∙ window-same _ c.args.from refl (omega arith)) c.act_phased.ensures.done

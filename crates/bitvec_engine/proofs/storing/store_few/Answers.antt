@@ -6,7 +6,21 @@ use Rattle.bitvec_words.specs.WordLaws.{take-all, word_whole}
 use Rattle.bitvec_words.specs.Elements.{elements_window}
 use Rattle.bitvec_words.specs.TouchedLaws.{touched-word}
 use Rattle.bitvec_words.specs.WholeLaws.{Writes-same}
+use Rattle.bitvec_store.specs.WidthLaws.{width_some}
+use Rattle.bitvec_engine.proofs.FewLemmas.{few-stored, few-touched}
 use Rattle.bitvec_engine.proofs.storing.store_few.Goals as goal
+
+pub returns-then-window-bits-clause-writes : goal.returns-then-window-bits-clause-writes
+returns-then-window-bits-clause-writes g c =
+    let short = rw c.BITS-bits.ensures at c.if-window-bits.true in
+    Writes-is _ _ _ _ _ _ _ c.store_short.ensures.writes (few-stored _ g.W.BitOrder.at c.args.window.len (g.C.Elem.BitStore.value c.moved-element.result) c.args.word short c.requires.bound c.moved-element.ensures)
+
+pub returns-then-window-bits-clause-cost : goal.returns-then-window-bits-clause-cost
+returns-then-window-bits-clause-cost g c =
+    let window = c.args.window in
+    let few = few-touched g.C.Elem.BitStore.BITS window.start window.len (width_some _ g.met.C.Elem.BitStore.width_law) (rw c.BITS-bits.ensures at c.if-window-bits.true) in
+    let cost = c.store_short.ensures.cost in
+    record { borrow = cost.borrow; loads = omega arith; stores = cost.stores }
 
 pub returns-else-window-bits-gt0-clause-cost : goal.returns-else-window-bits-gt0-clause-cost
 returns-else-window-bits-gt0-clause-cost g c =

@@ -1,16 +1,7 @@
 use Rattle.std.proofs.Common.{◌+◌, ◌-◌, arith}
 use Rattle.bitvec_base.specs.Lists.{copied_within}
-use Rattle.bitvec_base.specs.WritesLaws.{HasWindow-range, Writes-is, Writes-range, list-range}
+use Rattle.bitvec_base.specs.WritesLaws.{Writes-is, Writes-range, list-range}
 use Rattle.bitvec_move.proofs.copying_within.copy_within.Goals as goal
-
-pub move_window-requires : goal.move_window-requires
-move_window-requires g c =
-    let fits = c.requires.fits in let window = c.requires.window in
-    rw (c.range-target.ensures, c.range-source.ensures) (record {
-      window = HasWindow-range _ _ _ c.args.dest (c.args.dest + (c.args.to - c.args.from)) window (omega arith) fits.room;
-      beside = HasWindow-range _ _ _ c.args.from c.args.to window fits.order fits.source;
-      lengths = omega arith;
-    })
 
 pub returns-clause-writes : goal.returns-clause-writes
 unfolding copied_within

@@ -13,9 +13,6 @@ returns-then-to-le-WORD_BITS-clause-writes g c =
     Writes-is _ _ _ _ _ _ _ (rw c.load_parts-word.ensures.reads.numbers at c.store_parts.ensures.writes)
     (take-word 64 _ _ _ c.load_parts-word.ensures.value (c.requires.lengths ∙ sym long))
 
-pub load_parts-word-requires-clause-bound : goal.load_parts-word-requires-clause-bound
-load_parts-word-requires-clause-bound g c = let lengths = c.requires.lengths in let short = c.if-to-le-WORD_BITS.true in omega arith
-
 pub returns-then-to-le-WORD_BITS-clause-cost : goal.returns-then-to-le-WORD_BITS-clause-cost
 returns-then-to-le-WORD_BITS-clause-cost g c =
     let some = width_some _ g.met.C.Elem.BitStore.width_law in
@@ -29,7 +26,6 @@ returns-then-to-le-WORD_BITS-clause-cost g c =
 pub returns-then-to-from-clause-cost : goal.returns-then-to-from-clause-cost
 returns-then-to-from-clause-cost g c =
     let some = width_some _ g.met.C.Elem.BitStore.width_law in
-    let many = c.if-to-le-WORD_BITS.false in
     let loads = late-read g.C.Elem.BitStore.BITS c.args.from.start c.args.from.len c.args.to.len some c.requires.lengths (omega arith) in
     let stores = late-stored g.C.Elem.BitStore.BITS c.args.to.start c.args.to.len some in
     let cost = c.move_to.ensures.cost in
@@ -38,7 +34,6 @@ returns-then-to-from-clause-cost g c =
 pub returns-else-to-from-clause-cost : goal.returns-else-to-from-clause-cost
 returns-else-to-from-clause-cost g c =
     let some = width_some _ g.met.C.Elem.BitStore.width_law in
-    let many = c.if-to-le-WORD_BITS.false in
     let loads = late-read g.C.Elem.BitStore.BITS c.args.from.start c.args.from.len c.args.to.len some c.requires.lengths (omega arith) in
     let stores = late-stored g.C.Elem.BitStore.BITS c.args.to.start c.args.to.len some in
     let cost = c.move_to-else-to-from.ensures.cost in

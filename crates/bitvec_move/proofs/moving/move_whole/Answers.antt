@@ -1,25 +1,11 @@
-use Rattle.std.proofs.Common.{Bool, ◌≡◌, ◌+◌, ◌*◌, ◌∙◌, ap, arith, nat_eq, not, slice_index}
+use Rattle.std.proofs.Common.{Bool, ◌≡◌, ◌+◌, ◌*◌, ◌∙◌, ap, nat_eq, not, slice_index}
 use Rattle.std.proofs.Math.Nat.{le_refl}
 use Rattle.bitvec_base.specs.Memory.{element_bits, list_in}
 use Rattle.bitvec_store.specs.WidthLaws.{width_some}
-use Rattle.bitvec_words.specs.Moves.{late_words, nth_place}
-use Rattle.bitvec_words.specs.WordLaws.{inside, inside-word}
-use Rattle.bitvec_move.proofs.CostSums.{Costs-late, Costs-next, Costs-none}
+use Rattle.bitvec_words.specs.Moves.{nth_place}
+use Rattle.bitvec_move.proofs.CostSums.{Costs-next, Costs-none}
 use Rattle.bitvec_move.proofs.WithinLaws.{CopiesSome-kept, CopiesSome-more, CopiesSome-none, list-whole_next, nth-waiting}
-use Rattle.bitvec_move.proofs.WordMoveLemmas.{nth-inside, source-whole}
 use Rattle.bitvec_move.proofs.moving.move_whole.Goals as goal
-
-pub overflow_add-moved : goal.overflow_add-moved
-overflow_add-moved g c = record { fits = rw c.next_place-place.ensures (inside-word _ _ _ _ _ g.met.C.Elem.BitStore.width_law (source-whole _ _ _ _ c.requires.span.beside) (nth-inside _ _ _ c.loop-passed-test.true)) }
-
-pub load-element-requires : goal.load-element-requires
-load-element-requires g c = rw c.next_place-place.ensures (inside _ _ _ _ _ _ g.met.C.Elem.BitStore.width_law (source-whole _ _ _ _ c.requires.span.beside) (nth-inside _ _ _ c.loop-passed-test.true) c.loop-passed.invariant.writes.elements)
-
-pub overflow_add-moved-in-loop-passed : goal.overflow_add-moved-in-loop-passed
-overflow_add-moved-in-loop-passed g c = record { fits = rw c.next_place-place.ensures (inside-word _ _ _ _ _ g.met.C.Elem.BitStore.width_law c.requires.span.window (nth-inside _ _ _ c.loop-passed-test.true)) }
-
-pub store-requires : goal.store-requires
-store-requires g c = rw (c.next_place-place.ensures, c.load-element.ensures.numbers) (inside _ _ _ _ _ _ g.met.C.Elem.BitStore.width_law c.requires.span.window (nth-inside _ _ _ c.loop-passed-test.true) c.loop-passed.invariant.writes.elements)
 
 pub loop-passed-init : goal.loop-passed-init
 loop-passed-init g c = record {
@@ -42,8 +28,3 @@ loop-passed-preserved g c =
           (CopiesSome-more later _ _ _ _ _ _ _ _ _ _ some span more (ap (element_bits g.C.Elem.BitStore.BITS g.O.BitOrder.at) c.load-element.ensures.value ∙ place) inv.writes);
       cost = Costs-next g.C.CellsRead _ _ _ _ _ _ inv.cost c.load-element.ensures.borrow c.load-element.ensures.loads c.load-element.ensures.stores c.store.ensures.borrow c.store.ensures.loads c.store.ensures.stores;
     }
-
-pub returns-clause-cost : goal.returns-clause-cost
-returns-clause-cost g c =
-    let all : c.loop-passed.passed ≡ c.args.moved.count = omega arith in
-    Costs-late g.C.CellsRead _ _ _ (late_words g.C.Elem.BitStore.BITS (c.args.moved.count * g.C.Elem.BitStore.BITS)) (rw all at c.loop-passed.invariant.cost)

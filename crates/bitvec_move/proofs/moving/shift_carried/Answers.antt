@@ -2,17 +2,17 @@ use Rattle.std.proofs.Common.{ℕ, Bool, ◌≡◌, ◌+◌, ◌∙◌, ap, arit
 use Rattle.bitvec_base.specs.Memory.{element_bits}
 use Rattle.bitvec_store.specs.WidthLaws.{width_some}
 use Rattle.bitvec_words.specs.Moves.{waiting_place}
-use Rattle.bitvec_move.proofs.WithinLaws.{CopiesSome-kept, CopiesSome-more, CopiesSome-none, list-joined_next, nth-waiting}
+use Rattle.bitvec_move.proofs.WithinLaws.{CopiesSome-kept, CopiesSome-more, CopiesSome-none, list-joined_next, nth-below, nth-waiting}
 use Rattle.bitvec_words.specs.MovedPlaceLaws.{from-inside, from-word}
 use Rattle.bitvec_words.specs.WordLaws.{inside, inside-word}
-use Rattle.bitvec_move.proofs.WordMoveLemmas.{nth-inside, waiting-below}
+use Rattle.bitvec_move.proofs.WordMoveLemmas.{waiting-below}
 use Rattle.bitvec_move.proofs.moving.shift_carried.Goals as goal
 
 pub overflow_add-first : goal.overflow_add-first
-overflow_add-first g c = record { fits = rw c.next_place-place.ensures (inside-word _ _ _ _ _ g.met.C.Elem.BitStore.width_law c.requires.skipped.span.window (nth-inside _ _ _ c.loop-passed-test.true)) }
+overflow_add-first g c = record { fits = rw c.next_place-place.ensures (inside-word _ _ _ _ _ g.met.C.Elem.BitStore.width_law c.requires.skipped.span.window (nth-below _ _ _ c.loop-passed-test.true)) }
 
 pub store-requires : goal.store-requires
-store-requires g c = rw (c.next_place-place.ensures, c.load.ensures.numbers) (inside _ _ _ _ _ _ g.met.C.Elem.BitStore.width_law c.requires.skipped.span.window (nth-inside _ _ _ c.loop-passed-test.true) c.loop-passed.invariant.writes.elements)
+store-requires g c = rw (c.next_place-place.ensures, c.load.ensures.numbers) (inside _ _ _ _ _ _ g.met.C.Elem.BitStore.width_law c.requires.skipped.span.window (nth-below _ _ _ c.loop-passed-test.true) c.loop-passed.invariant.writes.elements)
 
 pub overflow_add-source : goal.overflow_add-source
 overflow_add-source g c = record { fits = rw c.read_place-read.ensures (from-word _ _ _ _ _ _ g.met.C.Elem.BitStore.width_law c.requires.skipped.span.beside c.requires.skipped.inside (waiting-below _ (c.loop-passed.passed + 1) c.args.count (omega arith))) }

@@ -1,8 +1,7 @@
-use Rattle.std.proofs.Common.{arith, rules, ◌≡◌}
+use Rattle.std.proofs.Common.{arith, rules}
 use Rattle.bitvec_store.specs.WidthLaws.{width_some}
 use Rattle.bitvec_words.specs.FieldLaws.{Writes-no_element}
-use Rattle.bitvec_move.proofs.SwapLaws.{Writes-exchanged_element, next_element}
-use Rattle.bitvec_words.specs.WordLaws.{inside, inside-word}
+use Rattle.bitvec_move.proofs.SwapLaws.{Writes-exchanged_element}
 use Rattle.bitvec_move.proofs.swapping_equal.swap_whole.Goals as goal
 
 pub loop-step-init : goal.loop-step-init
@@ -14,14 +13,6 @@ loop-step-init g c = record {
   cost = search rules;
   right_cost = search rules;
 }
-
-pub load-element-requires : goal.load-element-requires
-load-element-requires g c =
-    next_element _ _ _ _ _ _ (width_some _ g.met.C.Elem.BitStore.width_law) c.requires.window c.loop-step-test.true c.loop-step.invariant.swaps.writes.elements
-
-pub load-other-requires : goal.load-other-requires
-load-other-requires g c =
-    next_element _ _ _ _ _ _ (width_some _ g.met.C.Elem.BitStore.width_law) c.requires.beside c.loop-step-test.true c.loop-step.invariant.swaps.right_writes.elements
 
 pub loop-step-preserved : goal.loop-step-preserved
 loop-step-preserved g c =
@@ -39,44 +30,3 @@ loop-step-preserved g c =
       cost = search rules;
       right_cost = search rules;
     }
-
-pub overflow_add-first : goal.overflow_add-first
-overflow_add-first g c =
-    let below = inside-word _ _ _ _ _ g.met.C.Elem.BitStore.width_law c.requires.window c.loop-step-test.true in
-    omega arith
-
-pub overflow_add-source : goal.overflow_add-source
-overflow_add-source g c =
-    let below = inside-word _ _ _ _ _ g.met.C.Elem.BitStore.width_law c.requires.beside c.loop-step-test.true in
-    omega arith
-
-pub overflow_add-first-in-loop-step : goal.overflow_add-first-in-loop-step
-overflow_add-first-in-loop-step g c =
-    let below = inside-word _ _ _ _ _ g.met.C.Elem.BitStore.width_law c.requires.window c.loop-step-test.true in
-    omega arith
-
-pub store-requires : goal.store-requires
-store-requires g c = rw c.load-element.ensures.numbers (inside _ _ _ _ _ _ g.met.C.Elem.BitStore.width_law c.requires.window c.loop-step-test.true c.loop-step.invariant.swaps.writes.elements)
-
-pub overflow_add-source-in-loop-step : goal.overflow_add-source-in-loop-step
-overflow_add-source-in-loop-step g c =
-    let below = inside-word _ _ _ _ _ g.met.C.Elem.BitStore.width_law c.requires.beside c.loop-step-test.true in
-    omega arith
-
-pub store-requires-in-loop-step : goal.store-requires-in-loop-step
-store-requires-in-loop-step g c = rw c.load-other.ensures.numbers (inside _ _ _ _ _ _ g.met.C.Elem.BitStore.width_law c.requires.beside c.loop-step-test.true c.loop-step.invariant.swaps.right_writes.elements)
-
-pub returns-clause-swaps : goal.returns-clause-swaps
-returns-clause-swaps g c =
-    let all : c.loop-step.step ≡ c.args.count = omega arith in
-    rw (← all) c.loop-step.invariant.swaps
-
-pub returns-clause-cost : goal.returns-clause-cost
-returns-clause-cost g c =
-    let all : c.loop-step.step ≡ c.args.count = omega arith in
-    rw (← all) c.loop-step.invariant.cost
-
-pub returns-clause-right_cost : goal.returns-clause-right_cost
-returns-clause-right_cost g c =
-    let all : c.loop-step.step ≡ c.args.count = omega arith in
-    rw (← all) c.loop-step.invariant.right_cost

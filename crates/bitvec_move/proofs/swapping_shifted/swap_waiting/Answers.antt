@@ -7,8 +7,6 @@ use Rattle.bitvec_store.specs.WidthLaws.{width_some}
 use Rattle.bitvec_words.specs.FieldLaws.{list-part, part-stored, range-shifted}
 use Rattle.bitvec_words.specs.TouchedLaws.{touched-one, touched-two}
 use Rattle.bitvec_move.proofs.WaitingLaws.{range-moved, range-moved_across, waiting-across, waiting-beyond, waiting-front, waiting-inside}
-use Rattle.bitvec_words.specs.WordLaws.{width-some}
-use Rattle.bitvec_move.proofs.MoveLemmas.{place-element, second-element, second-word}
 use Rattle.bitvec_move.proofs.swapping_shifted.swap_waiting.Goals as goal
 
 pub returns-then-end-bits-clause-swaps : goal.returns-then-end-bits-clause-swaps
@@ -16,18 +14,17 @@ returns-then-end-bits-clause-swaps g c =
     let b = g.C.Elem.BitStore.BITS in
     let at = g.O.BitOrder.at in
     let some = width_some _ g.met.C.Elem.BitStore.width_law in
-    let fits = rw c.BITS-bits.ensures at c.if-end-bits.true in
+    let fits = rw c.width-bits.ensures.is at c.if-end-bits.true in
     let left_merged = rw c.load-element.ensures.value at c.merged.ensures in
     let front = element_bits b at (g.C.Elem.BitStore.value c.toward_start-front.result) in
     let wide = length-element_bits b at (g.C.Elem.BitStore.value c.toward_start-front.result) in
-    let bound = c.requires.element.bound in
     let inside : c.args.part.to ≤ length front = omega arith in
-    let front_is = rw c.BITS-bits.ensures at c.toward_start-front.ensures in
-    let merged = rw c.BITS-bits.ensures at c.merged-then-end-bits.ensures in
+    let front_is = rw c.width-bits.ensures.is at c.toward_start-front.ensures in
+    let merged = rw c.width-bits.ensures.is at c.merged-then-end-bits.ensures in
     let old = element_bits b at (slice_index (g.C.CellsRead.numbers c.args.left.now) c.args.part.element) in
     let long = length-element_bits b at (slice_index (g.C.CellsRead.numbers c.args.left.now) c.args.part.element) in
     let moved = rw c.load-element.ensures.value at c.toward_start-moved.ensures in
-    let back = rw (c.BITS-bits.ensures, moved) at c.toward_end-back.ensures in
+    let back = rw (c.width-bits.ensures.is, moved) at c.toward_end-back.ensures in
     record {
       writes =
           rw (c.store.ensures.numbers, c.load-element.ensures.numbers)
@@ -47,7 +44,7 @@ returns-then-end-bits-clause-swaps g c =
 
 pub returns-then-end-bits-clause-right_cost : goal.returns-then-end-bits-clause-right_cost
 returns-then-end-bits-clause-right_cost g c =
-    let fits = rw c.BITS-bits.ensures at c.if-end-bits.true in
+    let fits = rw c.width-bits.ensures.is at c.if-end-bits.true in
     let one = touched-one g.C.Elem.BitStore.BITS c.args.from.start c.args.from.len (width_some _ g.met.C.Elem.BitStore.width_law) c.requires.some fits in
     record { borrow = refl; loads = omega arith; stores = omega arith }
 
@@ -56,21 +53,21 @@ returns-clause-swaps g c =
     let b = g.C.Elem.BitStore.BITS in
     let at = g.O.BitOrder.at in
     let some = width_some _ g.met.C.Elem.BitStore.width_law in
-    let over = rw c.BITS-bits.ensures at c.if-end-bits.false in
+    let over = rw c.width-bits.ensures.is at c.if-end-bits.false in
     let merged = rw c.load-element.ensures.value at c.merged-2.ensures in
     let front = element_bits b at (g.C.Elem.BitStore.value c.joined-front.result) in
     let wide = length-element_bits b at (g.C.Elem.BitStore.value c.joined-front.result) in
     let bound = c.requires.element.bound in let lengths = c.requires.lengths in
     let inside : c.args.part.to ≤ length front = omega arith in
-    let joined = rw (c.load-next.ensures.value, c.BITS-bits.ensures) at c.joined-front.ensures in
+    let joined = rw (c.load-next.ensures.value, c.width-bits.ensures.is) at c.joined-front.ensures in
     let head = mod_below c.args.from.start b some in
     let old = element_bits b at (slice_index (g.C.CellsRead.numbers c.args.left.now) c.args.part.element) in
     let long = length-element_bits b at (slice_index (g.C.CellsRead.numbers c.args.left.now) c.args.part.element) in
     let moved = rw c.load-element.ensures.value at c.toward_start-moved.ensures in
-    let back = rw (c.BITS-bits.ensures, moved) at c.toward_end-back-2.ensures in
-    let carried = rw (c.BITS-bits.ensures, moved) at c.toward_start-carried.ensures in
-    let stored = rw c.BITS-bits.ensures at c.merged-3.ensures in
-    let waits = rw (c.load-next.ensures.value, c.BITS-bits.ensures) at c.merged-4.ensures in
+    let back = rw (c.width-bits.ensures.is, moved) at c.toward_end-back-2.ensures in
+    let carried = rw (c.width-bits.ensures.is, moved) at c.toward_start-carried.ensures in
+    let stored = rw c.width-bits.ensures.is at c.merged-3.ensures in
+    let waits = rw (c.load-next.ensures.value, c.width-bits.ensures.is) at c.merged-4.ensures in
     record {
       writes =
           rw (c.store-2.ensures.numbers, c.load-element.ensures.numbers)
@@ -81,7 +78,7 @@ returns-clause-swaps g c =
           ∙ ap (take c.args.from.len) joined
           ∙ waiting-across _ _ _ _ _ some c.requires.beside c.requires.some (omega arith) over));
       right_writes =
-          rw (c.store-3.ensures.numbers, c.load-next.ensures.numbers, c.BITS-bits.ensures)
+          rw (c.store-3.ensures.numbers, c.load-next.ensures.numbers, c.width-bits.ensures.is)
           (Writes-is _ _ _ _ _ _ _
           (waiting-beyond _ _ _ _ _ _ _ _ _ _ some c.requires.beside refl (omega arith) over stored waits)
           (rw (back, carried)
@@ -91,69 +88,6 @@ returns-clause-swaps g c =
 
 pub returns-clause-right_cost : goal.returns-clause-right_cost
 returns-clause-right_cost g c =
-    let over = rw c.BITS-bits.ensures at c.if-end-bits.false in
-    let bound = c.requires.element.bound in let lengths = c.requires.lengths in
+    let over = rw c.width-bits.ensures.is at c.if-end-bits.false in
     let two = touched-two g.C.Elem.BitStore.BITS c.args.from.start c.args.from.len (width_some _ g.met.C.Elem.BitStore.width_law) (omega arith) over in
     record { borrow = search rules; loads = omega arith; stores = omega arith }
-
-pub nonzero_div-index : goal.nonzero_div-index
-nonzero_div-index g c = let some = width-some _ _ g.met.C.Elem.BitStore.width_law c.BITS-bits.ensures in omega arith
-
-pub nonzero_rem-skip : goal.nonzero_rem-skip
-nonzero_rem-skip g c = let some = width-some _ _ g.met.C.Elem.BitStore.width_law c.BITS-bits.ensures in omega arith
-
-pub toward_start-moved-requires : goal.toward_start-moved-requires
-toward_start-moved-requires g c =
-    let bound = c.requires.element.bound in let lengths = c.requires.lengths in let more = c.requires.some in
-    omega arith
-
-pub toward_start-front-requires : goal.toward_start-front-requires
-toward_start-front-requires g c = rw c.BITS-bits.ensures (mod_below c.args.from.start g.C.Elem.BitStore.BITS (width_some _ g.met.C.Elem.BitStore.width_law))
-
-pub toward_end-new-requires : goal.toward_end-new-requires
-toward_end-new-requires g c =
-    let bound = c.requires.element.bound in let lengths = c.requires.lengths in let more = c.requires.some in
-    omega arith
-
-pub toward_end-back-requires : goal.toward_end-back-requires
-toward_end-back-requires g c = rw c.BITS-bits.ensures (mod_below c.args.from.start g.C.Elem.BitStore.BITS (width_some _ g.met.C.Elem.BitStore.width_law))
-
-pub overflow_add-index : goal.overflow_add-index
-overflow_add-index g c =
-    let below = second-word _ _ _ c.args.from g.met.C.Elem.BitStore.width_law c.BITS-bits.ensures c.requires.beside c.if-end-bits.false in
-    omega arith
-
-pub load-next-requires : goal.load-next-requires
-load-next-requires g c = second-element _ _ _ _ c.args.from g.met.C.Elem.BitStore.width_law c.BITS-bits.ensures c.requires.beside c.if-end-bits.false refl
-
-pub joined-front-requires-clause-some : goal.joined-front-requires-clause-some
-joined-front-requires-clause-some g c =
-    let over = c.if-end-bits.false in let is = c.BITS-bits.ensures in let bound = c.requires.element.bound in let lengths = c.requires.lengths in
-    omega arith
-
-pub joined-front-requires-clause-bound : goal.joined-front-requires-clause-bound
-joined-front-requires-clause-bound g c = rw c.BITS-bits.ensures (mod_below c.args.from.start g.C.Elem.BitStore.BITS (width_some _ g.met.C.Elem.BitStore.width_law))
-
-pub toward_end-new-requires-2 : goal.toward_end-new-requires-2
-toward_end-new-requires-2 g c =
-    let bound = c.requires.element.bound in let lengths = c.requires.lengths in let more = c.requires.some in
-    omega arith
-
-pub toward_end-back-requires-2 : goal.toward_end-back-requires-2
-toward_end-back-requires-2 g c = rw c.BITS-bits.ensures (mod_below c.args.from.start g.C.Elem.BitStore.BITS (width_some _ g.met.C.Elem.BitStore.width_law))
-
-pub store-requires-3 : goal.store-requires-3
-store-requires-3 g c =
-    let more = c.requires.some in
-    rw c.load-next.ensures.numbers (place-element _ _ _ _ c.args.from _ g.met.C.Elem.BitStore.width_law c.BITS-bits.ensures c.requires.beside (omega arith) refl)
-
-pub overflow_sub-bits : goal.overflow_sub-bits
-overflow_sub-bits g c =
-    let below = mod_below c.args.from.start c.BITS-bits.result (width-some _ _ g.met.C.Elem.BitStore.width_law c.BITS-bits.ensures) in
-    omega arith
-
-pub toward_start-carried-requires : goal.toward_start-carried-requires
-toward_start-carried-requires g c =
-    let below = mod_below c.args.from.start g.C.Elem.BitStore.BITS (width_some _ g.met.C.Elem.BitStore.width_law) in
-    let over = c.if-end-bits.false in let is = c.BITS-bits.ensures in let bound = c.requires.element.bound in let lengths = c.requires.lengths in
-    omega arith

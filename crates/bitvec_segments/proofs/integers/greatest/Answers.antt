@@ -4,6 +4,5 @@ use Rattle.bitvec_segments.proofs.integers.greatest.Goals as goal
 
 pub returns : goal.returns
 returns c =
-    let bound = c.requires.bound in
     let back : 128 - (128 - c.args.bits) ≡ c.args.bits = omega arith in
     ones_shr 128 (128 - c.args.bits) (omega arith) ∙ ap (λ (n : ℕ). 2 ^ n - 1) back

@@ -1,9 +1,8 @@
 use Rattle.std.specs.Prelude.{bit_and}
 use Rattle.std.proofs.Common.{◌≡◌, ◌+◌, ◌-◌, ◌/◌, ◌%◌, ◌^◌, ℕ, arith, ap, ◌∙◌}
-use Rattle.std.proofs.lemmas.Nat.{and_mask, div-add-mod'}
+use Rattle.std.proofs.lemmas.Nat.{and_mask}
 use Rattle.std.proofs.lemmas.Nat.Bits.{ones_shr}
 use Rattle.std.proofs.Math.Nat.{mul-pos}
-use Rattle.bitvec_words.specs.FieldLaws.{element_of}
 use Rattle.bitvec_store.specs.WidthLaws.{width_some}
 use Rattle.bitvec_segments.proofs.JoinedWindow.{HasWindow-elements, number-below, number-cut, number-element, number-next, number-one, touched-elements}
 use Rattle.bitvec_segments.proofs.joining.joined_number.Goals as goal
@@ -11,7 +10,6 @@ use Rattle.bitvec_segments.proofs.joining.joined_number.Goals as goal
 pub loop-width-init : goal.loop-width-init
 loop-width-init g c =
     let some = width_some _ g.met.C.Elem.BitStore.width_law in
-    let more = c.requires.word.some in
     let word = c.to_u128-word.ensures in
     let value = number-element g.O.WordOrder.HIGH _ g.O.BitOrder.at _ _ (g.met.O.WordOrder.ends_law _) (word.number ∙ c.load.ensures.value) word.in_range in
     record {
@@ -21,15 +19,6 @@ loop-width-init g c =
       value = number-one _ _ _ _ _ _ some (HasWindow-elements _ _ c.args.window 1 c.requires.window (omega arith) (omega arith)) (rw c.BITS-bits.ensures at value);
       reads = record { numbers = c.load.ensures.numbers; borrow = c.load.ensures.borrow; loads = c.load.ensures.loads; stores = c.load.ensures.stores };
     }
-
-pub load-requires-in-loop-width : goal.load-requires-in-loop-width
-load-requires-in-loop-width g c =
-    let inv = c.loop-width.invariant in
-    let reads = inv.reads.numbers in
-    let within = c.requires.window.within in
-    let left = rw (c.BITS-bits.ensures, inv.width) at c.loop-width-test.true in
-    let place = div-add-mod' c.args.window.start g.C.Elem.BitStore.BITS in
-    rw (c.BITS-bits.ensures, reads) (element_of g.C.Elem.BitStore.BITS _ 0 _ (omega arith))
 
 pub with_next-word-requires : goal.with_next-word-requires
 with_next-word-requires g c =
@@ -55,13 +44,9 @@ loop-width-preserved g c =
     let element = number-element g.O.WordOrder.HIGH _ g.O.BitOrder.at _ _ (g.met.O.WordOrder.ends_law _) (next.number ∙ c.load-in-loop-width.ensures.value) next.in_range in
     let value = rw (c.BITS-bits.ensures, inv.reads.numbers) at element in
     let joined = rw (c.BITS-bits.ensures, inv.width) at c.with_next-word.ensures in
-    let wider = inv.width in
-    let bits = c.BITS-bits.ensures in
     let whole = number-next _ _ _ _ _ _ _ _ some has inv.value value in
     let reads = inv.reads in
     let more = c.load-in-loop-width.ensures in
-    let old_loads = reads.loads in
-    let loads = more.loads in
     record {
       some = omega arith;
       width = omega arith;
@@ -76,8 +61,6 @@ returns-clause-value g c =
     let all = rw (c.BITS-bits.ensures, inv.width) at c.loop-width-test.false in
     let has = HasWindow-elements _ _ c.args.window c.loop-width.count c.requires.window inv.some inv.last in
     let len : ℕ = c.args.window.len in
-    let short = c.requires.word.fits in
-    let some = c.requires.word.some in
     let back : 64 - (64 - len) ≡ len = omega arith in
     let mask : (2 ^ 64 - 1) / 2 ^ (64 - len) ≡ 2 ^ len - 1 = ones_shr 64 (64 - len) (omega arith) ∙ ap (λ (n : ℕ). 2 ^ n - 1) back in
     let size : c.args.window.start % g.C.Elem.BitStore.BITS + len - c.args.window.start % g.C.Elem.BitStore.BITS ≡ len = omega arith in

@@ -11,12 +11,11 @@ use Rattle.bitvec_segments.proofs.loading.load.Goals as goal
 
 pub returns-then-window-eq0-clause-value : goal.returns-then-window-eq0-clause-value
 returns-then-window-eq0-clause-value g c =
-    let none = c.if-window-eq0.true in
     Loaded-all _ _ _ _ _ c.args.window c.args.window 0 (omega arith) (Loaded-start _ _ _ _ _ c.args.window)
 
 pub returns-then-window-eq0-clause-reads : goal.returns-then-window-eq0-clause-reads
 returns-then-window-eq0-clause-reads g c =
-    let none : c.args.window.len ≡ 0 = let zero_len = c.if-window-eq0.true in omega arith in
+    let none : c.args.window.len ≡ 0 = omega arith in
     rw (none, touched-none g.C.Elem.BitStore.BITS c.args.window.start) (record { numbers = refl; borrow = refl; loads = omega arith; stores = refl })
 
 pub returns-then-window-eq-WORD_BITS-clause-value : goal.returns-then-window-eq-WORD_BITS-clause-value

@@ -5,12 +5,12 @@ use Rattle.bitvec_base.specs.Parts.{first_part_of}
 use Rattle.bitvec_store.specs.WidthLaws.{width_some}
 use Rattle.bitvec_cells.specs.WalkLaws.{first-len}
 use Rattle.bitvec_segments.proofs.JoinedWindow.{touched-elements}
-use Rattle.bitvec_segments.proofs.WalkLemmas.{first-part, stored-nothing, stored-one}
+use Rattle.bitvec_segments.proofs.WalkLemmas.{stored-nothing, stored-one}
 use Rattle.bitvec_segments.proofs.storing.store.Goals as goal
 
 pub returns-then-window-eq0-clause-writes : goal.returns-then-window-eq0-clause-writes
 returns-then-window-eq0-clause-writes g c =
-    let none : c.args.window.len ≡ 0 = let zero_len = c.if-window-eq0.true in omega arith in
+    let none : c.args.window.len ≡ 0 = omega arith in
     stored-nothing _ _ _ _ _ c.args.window _ c.requires.window none
 
 pub returns-then-window-bits : goal.returns-then-window-bits
@@ -18,7 +18,7 @@ returns-then-window-bits g c =
     let window = c.args.window in
     let b = g.C.Elem.BitStore.BITS in
     let some = width_some _ g.met.C.Elem.BitStore.width_law in
-    let more : 0 < window.len = let filled = c.if-window-eq0.false in omega arith in
+    let more : 0 < window.len = omega arith in
     let short = rw c.BITS-bits.ensures at c.if-window-bits.true in
     let len = first-len b window some more in
     let step : window.len ≡ (first_part_of b window).to - (first_part_of b window).from = omega arith in
@@ -27,8 +27,6 @@ returns-then-window-bits g c =
     let filled = fill_loads-some window.len (λ none. omega arith) in
     let edge = part_loads-most b c.part_at-part.result in
     let cost = c.store_part_number.ensures.cost in
-    let loads = cost.loads in
-    let stores = cost.stores in
     record {
       writes = stored-one _ _ _ _ _ window window.len some more step c.requires.window _ _ (omega arith) (rw part at c.store_part_number.ensures.writes);
       cost = record { borrow = cost.borrow; loads = omega arith; stores = omega arith };
@@ -54,8 +52,3 @@ store_in-requires-then-window-bits-4-clause-count g c =
     let edge = rw c.BITS-bits.ensures at c.if-from-eq0-3.true in
     let len = rw c.BITS-bits.ensures at c.if-window-bits-4.true in
     sym (touched-elements g.C.Elem.BitStore.BITS c.args.window.start c.args.window.len 8 (omega arith) (omega arith) (omega arith) (omega arith))
-
-pub store_part_number-requires : goal.store_part_number-requires
-store_part_number-requires g c =
-    let first = first-part _ _ _ _ _ g.met.C.Elem.BitStore.width_law (omega arith) c.requires.window c.part_at-part.ensures c.BITS-bits.ensures in
-    record { part = first.0; some = first.1 }

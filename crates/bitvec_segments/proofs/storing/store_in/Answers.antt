@@ -1,23 +1,11 @@
-use Rattle.std.proofs.Common.{arith, rules, refl}
+use Rattle.std.proofs.Common.{arith, rules}
 use Rattle.bitvec_words.specs.PartWalkLaws.{HasPart-first}
-use Rattle.bitvec_words.specs.WholeLaws.{HasWindow-part, window-end}
+use Rattle.bitvec_words.specs.WholeLaws.{HasWindow-part}
 use Rattle.bitvec_base.specs.WritesLaws.{HasWindow-kept}
 use Rattle.bitvec_store.specs.WidthLaws.{width_some}
 use Rattle.bitvec_cells.specs.WalkLaws.{Walked-start, Walked-next, edge_loads-next, first-len}
-use Rattle.bitvec_segments.proofs.WalkLemmas.{Begins-next, edges-all, Left-next, Left-start, element-below, none-left, some-left, stored-nothing, turn}
+use Rattle.bitvec_segments.proofs.WalkLemmas.{Begins-next, Left-next, none-left, some-left, stored-nothing, turn}
 use Rattle.bitvec_segments.proofs.storing.store_in.Goals as goal
-
-pub loop-left-init : goal.loop-left-init
-loop-left-init g c =
-    record {
-      has = c.requires.number.window;
-      walk = Walked-start _ _;
-      count = c.requires.count;
-      fewer = omega arith;
-      place = rw c.BITS-bits.ensures (λ some. (refl, refl));
-      left = Left-start _ _ _ _ _ c.args.window _;
-      cost = record { borrow = refl; loads = search rules; stores = omega arith };
-    }
 
 pub loop-left-preserved : goal.loop-left-preserved
 loop-left-preserved g c =
@@ -27,12 +15,6 @@ loop-left-preserved g c =
     let rest = c.loop-left.rest in
     let turn = turn _ _ rest _ _ _ g.met.C.Elem.BitStore.width_law inv.count c.loop-left-test.true c.part_at-part.ensures c.BITS-bits.ensures c.len-len.ensures in
     let edges = edge_loads-next b window rest c.len-len.result turn.some turn.more turn.step inv.walk in
-    let count = inv.count in
-    let touched = turn.touched in
-    let most = turn.most in
-    let fewer = inv.fewer in
-    let start = inv.walk.start in
-    let end = inv.walk.end in
     let stored = rw (turn.is, c.lower_bits-below.ensures.bits) at c.store_part_number.ensures in
     rw c.after-rest.ensures (record {
       has = HasWindow-part _ _ rest _ (HasWindow-kept _ _ _ rest inv.has stored.writes.elements) (omega arith) (omega arith);
@@ -49,12 +31,6 @@ returns-clause-writes g c =
     let inv = c.loop-left.invariant in
     inv.left _ (stored-nothing _ _ _ _ _ c.loop-left.rest _ inv.has (none-left _ _ _ _ inv.count c.loop-left-test.false))
 
-pub part_at-part-requires-clause-element : goal.part_at-part-requires-clause-element
-part_at-part-requires-clause-element g c = rw c.BITS-bits.ensures (c.loop-left.invariant.place c.loop-left-test.true).0
-
-pub part_at-part-requires-clause-from : goal.part_at-part-requires-clause-from
-part_at-part-requires-clause-from g c = rw c.BITS-bits.ensures (c.loop-left.invariant.place c.loop-left-test.true).1
-
 pub store_part_number-requires-clause-part : goal.store_part_number-requires-clause-part
 store_part_number-requires-clause-part g c =
     let inv = c.loop-left.invariant in
@@ -69,27 +45,4 @@ pub overflow_shr-number : goal.overflow_shr-number
 overflow_shr-number g c =
     let inv = c.loop-left.invariant in
     let turn = turn _ _ c.loop-left.rest _ _ _ g.met.C.Elem.BitStore.width_law inv.count c.loop-left-test.true c.part_at-part.ensures c.BITS-bits.ensures c.len-len.ensures in
-    let most = c.lower_bits-below.ensures.most in
-    let first = turn.first in
-    let start = inv.walk.start in
-    let end = inv.walk.end in
-    let bound = c.requires.number.bound in
     omega arith
-
-pub overflow_add-element : goal.overflow_add-element
-overflow_add-element g c =
-    let inv = c.loop-left.invariant in
-    let place = (inv.place c.loop-left-test.true).0 in
-    let more = some-left _ _ _ _ inv.count c.loop-left-test.true in
-    let below = element-below g.C.Elem.BitStore.BITS c.loop-left.rest.start (width_some _ g.met.C.Elem.BitStore.width_law) in
-    let end = window-end _ _ c.loop-left.rest inv.has in
-    record { fits = omega arith }
-
-pub returns-clause-cost : goal.returns-clause-cost
-returns-clause-cost g c =
-    let inv = c.loop-left.invariant in
-    let none = none-left _ _ _ _ inv.count c.loop-left-test.false in
-    let edges = edges-all _ c.args.window c.loop-left.rest none inv.walk in
-    let loads = inv.cost.loads in
-    let stores = inv.cost.stores in
-    rw (← c.requires.count) (record { borrow = inv.cost.borrow; loads = omega arith; stores = omega arith })

@@ -6,7 +6,7 @@ use Rattle.bitvec_base.specs.Window.{window_after}
 use Rattle.bitvec_store.specs.WidthLaws.{width_some}
 use Rattle.bitvec_cells.specs.WalkLaws.{first-len}
 use Rattle.bitvec_segments.proofs.JoinedWindow.{touched-last}
-use Rattle.bitvec_segments.proofs.WalkLemmas.{first-part, stored-joined}
+use Rattle.bitvec_segments.proofs.WalkLemmas.{stored-joined}
 use Rattle.bitvec_segments.proofs.storing.store_segments.Goals as goal
 
 pub returns : goal.returns
@@ -15,7 +15,6 @@ returns g c =
     let b = g.C.Elem.BitStore.BITS in
     let some = width_some _ g.met.C.Elem.BitStore.width_law in
     let more = c.requires.some in
-    let long = c.requires.passes in
     let head : ℕ = b - window.start % b in
     let len = first-len b window some more in
     let step : head ≡ (first_part_of b window).to - (first_part_of b window).from = omega arith in
@@ -26,10 +25,6 @@ returns g c =
     let edge = part_loads-most b (first_part_of b window) in
     let first = rw (part, c.lower_bits.ensures.bits, after) at c.store_part_number.ensures in
     let later = rw (after, c.lower_bits-2.ensures.bits, c.BITS-bits.ensures) at c.store_two.ensures in
-    let first_loads = first.cost.loads in
-    let later_loads = later.cost.loads in
-    let first_stores = first.cost.stores in
-    let later_stores = later.cost.stores in
     record {
       writes = stored-joined _ _ _ _ _ window head some more step c.requires.number.window _ _ c.args.number first.writes later.writes;
       cost = record { borrow = later.cost.borrow ∙ first.cost.borrow; loads = omega arith; stores = omega arith };
@@ -38,8 +33,3 @@ returns g c =
 pub store_in-requires-clause-count : goal.store_in-requires-clause-count
 store_in-requires-clause-count g c =
     rw c.BITS-bits.ensures (sym (touched-last g.C.Elem.BitStore.BITS c.args.window.start c.args.window.len (width_some _ g.met.C.Elem.BitStore.width_law) c.requires.some))
-
-pub store_part_number-requires : goal.store_part_number-requires
-store_part_number-requires g c =
-    let first = first-part _ _ _ _ _ g.met.C.Elem.BitStore.width_law c.requires.some c.requires.number.window c.part_at-part.ensures c.BITS-bits.ensures in
-    record { part = first.0; some = first.1 }

@@ -1,11 +1,9 @@
 use Rattle.std.proofs.Common.{arith, refl, sym, ◌∙◌, ap, Bool, List, count_by}
-use Rattle.bitvec_store.specs.WidthLaws.{width_some}
 use Rattle.bitvec_cells.specs.WalkLaws.{touched-none}
 use Rattle.bitvec_words.specs.WholeLaws.{list-empty, window-end}
-use Rattle.bitvec_words.specs.WordLaws.{width-some}
 use Rattle.bitvec_words.proofs.CostLemmas.{reads-is, reads-sum}
 use Rattle.bitvec_words.proofs.CountLemmas.{count-few}
-use Rattle.bitvec_words.proofs.SplitLemmas.{HasPart-is, HasWindow-behind, HasWindow-front, list-all, split-count, touched-all, touched-part, touched-split}
+use Rattle.bitvec_words.proofs.SplitLemmas.{HasPart-is, HasWindow-behind, HasWindow-front, list-all, split-count}
 use Rattle.bitvec_words.proofs.counting.count.Goals as goal
 
 pub returns-then-window-eq0 : goal.returns-then-window-eq0
@@ -16,9 +14,6 @@ returns-then-window-eq0 g c =
       value = ap (λ (l : List Bool). count_by (λ (bit : Bool). bit) l) (sym (list-empty _ _ _ _ none));
       reads = rw none (record { numbers = refl; borrow = refl; loads = omega arith; stores = refl });
     }
-
-pub nonzero_rem-window : goal.nonzero_rem-window
-nonzero_rem-window g c = width-some _ _ g.met.C.Elem.BitStore.width_law c.BITS-bits.ensures
 
 pub split_head-requires : goal.split_head-requires
 split_head-requires g c = record { some = omega arith; end = window-end _ _ c.args.window c.requires }
@@ -31,7 +26,7 @@ returns-then-rest-eq0 g c =
     let split = c.split_head.ensures.split in
     record {
       value = c.count_part-ones.ensures.value ∙ ap (λ (l : List Bool). count_by (λ (bit : Bool). bit) l) (list-all split c.if-rest-eq0.true g.O.BitOrder.at _);
-      reads = reads-is c.count_part-ones.ensures.reads (sym (touched-all split c.if-rest-eq0.true) ∙ touched-part c.split_head.ensures.part);
+      reads = reads-is c.count_part-ones.ensures.reads (c.split_head.ensures.one c.if-rest-eq0.true);
     }
 
 pub count_aligned-requires-2 : goal.count_aligned-requires-2
@@ -48,8 +43,6 @@ overflow_add-result g c =
 pub returns : goal.returns
 returns g c =
     let split = c.split_head.ensures.split in
-    let part = touched-part c.split_head.ensures.part in
-    let all = touched-split split (width_some _ g.met.C.Elem.BitStore.width_law) in
     let rest = rw c.count_part-ones.ensures.reads.numbers at c.count_aligned-2.ensures in
     record {
       value = split-count split g.O.BitOrder.at c.requires _ _ c.count_part-ones.ensures.value rest.value;

@@ -1,10 +1,8 @@
-use Rattle.std.proofs.Common.{arith, sym, ◌∙◌, ap, Bool, List, count_by}
-use Rattle.bitvec_store.specs.WidthLaws.{width_some}
-use Rattle.bitvec_words.specs.TouchedLaws.{touched-whole}
+use Rattle.std.proofs.Common.{arith, ◌∙◌, ap, Bool, List, count_by}
 use Rattle.bitvec_words.specs.WholeLaws.{window-end}
 use Rattle.bitvec_words.proofs.CostLemmas.{reads-is, reads-sum}
 use Rattle.bitvec_words.proofs.CountLemmas.{count-few}
-use Rattle.bitvec_words.proofs.SplitLemmas.{HasPart-is, HasWindow-behind, HasWindow-front, IsPart-tail, list-all, split-count, touched-all, touched-part, touched-split}
+use Rattle.bitvec_words.proofs.SplitLemmas.{HasPart-is, HasWindow-behind, HasWindow-front, list-all, split-count}
 use Rattle.bitvec_words.proofs.counting.count_aligned.Goals as goal
 
 pub split_tail-first-requires : goal.split_tail-first-requires
@@ -16,16 +14,15 @@ count_whole-ones-requires g c = HasWindow-front c.split_tail-first.ensures.split
 pub returns-then-tail-eq0 : goal.returns-then-tail-eq0
 returns-then-tail-eq0 g c =
     let split = c.split_tail-first.ensures.split in
-    let whole = touched-whole g.C.Elem.BitStore.BITS c.split_tail-first.result.0 c.split_tail-first.result.1 (width_some _ g.met.C.Elem.BitStore.width_law) in
     record {
       value = c.count_whole-ones.ensures.value ∙ ap (λ (l : List Bool). count_by (λ (bit : Bool). bit) l) (list-all split (omega arith) g.O.BitOrder.at _);
-      reads = reads-is c.count_whole-ones.ensures.reads (sym (touched-all split (omega arith)) ∙ whole);
+      reads = reads-is c.count_whole-ones.ensures.reads (c.split_tail-first.ensures.whole c.if-tail-eq0.true);
     }
 
 pub count_part-requires : goal.count_part-requires
 count_part-requires g c =
     let told = c.split_tail-first.ensures in
-    rw c.count_whole-ones.ensures.reads.numbers (HasPart-is (IsPart-tail _ c.split_tail-first.result.2 told.from told.bound c.if-tail-eq0.false) (HasWindow-behind told.split c.requires.window))
+    rw c.count_whole-ones.ensures.reads.numbers (HasPart-is (told.part c.if-tail-eq0.false) (HasWindow-behind told.split c.requires.window))
 
 pub overflow_add-result : goal.overflow_add-result
 overflow_add-result g c =
@@ -36,10 +33,6 @@ overflow_add-result g c =
 pub returns : goal.returns
 returns g c =
     let told = c.split_tail-first.ensures in
-    let some = width_some _ g.met.C.Elem.BitStore.width_law in
-    let whole = touched-whole g.C.Elem.BitStore.BITS c.split_tail-first.result.0 c.split_tail-first.result.1 some in
-    let part = touched-part (IsPart-tail g.C.Elem.BitStore.BITS c.split_tail-first.result.2 told.from told.bound c.if-tail-eq0.false) in
-    let all = touched-split told.split some in
     let tail = rw c.count_whole-ones.ensures.reads.numbers at c.count_part.ensures in
     record {
       value = split-count told.split g.O.BitOrder.at c.requires.window _ _ c.count_whole-ones.ensures.value tail.value;

@@ -11,16 +11,6 @@ loop-step-init g c = record {
   reads = search rules;
 }
 
-pub overflow_mul-step : goal.overflow_mul-step
-overflow_mul-step g c =
-    let here = word-block _ c.args.first c.args.count c.loop-step.step g.met.C.Elem.BitStore.width_law c.requires.window c.loop-step-test.true in
-    rw c.BITS.ensures (omega arith)
-
-pub overflow_add-first : goal.overflow_add-first
-overflow_add-first g c =
-    let here = word-block _ c.args.first c.args.count c.loop-step.step g.met.C.Elem.BitStore.width_law c.requires.window c.loop-step-test.true in
-    rw c.BITS.ensures (omega arith)
-
 pub load_word-requires : goal.load_word-requires
 load_word-requires g c =
     let here = word-block _ c.args.first c.args.count c.loop-step.step g.met.C.Elem.BitStore.width_law c.requires.window c.loop-step-test.true in

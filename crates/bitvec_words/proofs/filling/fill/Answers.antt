@@ -1,12 +1,11 @@
-use Rattle.std.proofs.Common.{arith, refl, sym, ◌∙◌}
+use Rattle.std.proofs.Common.{arith, refl, sym}
 use Rattle.bitvec_base.specs.WritesLaws.{HasWindow-kept, Writes-empty, Writes-is}
-use Rattle.bitvec_store.specs.WidthLaws.{width_some}
 use Rattle.bitvec_cells.specs.WalkLaws.{touched-none}
 use Rattle.bitvec_words.specs.FillingLaws.{fill_loads-some, replicate-is}
 use Rattle.bitvec_words.specs.TouchedLaws.{part_loads-most}
 use Rattle.bitvec_words.specs.WholeLaws.{window-end}
 use Rattle.bitvec_words.proofs.CostLemmas.{costs-both, costs-most}
-use Rattle.bitvec_words.proofs.SplitLemmas.{HasPart-is, HasWindow-behind, HasWindow-front, Writes-all, Writes-filled_split, touched-all, touched-part, touched-split}
+use Rattle.bitvec_words.proofs.SplitLemmas.{HasPart-is, HasWindow-behind, HasWindow-front, Writes-all, Writes-filled_split}
 use Rattle.bitvec_words.proofs.filling.fill.Goals as goal
 
 pub returns-then-window-eq0 : goal.returns-then-window-eq0
@@ -29,8 +28,7 @@ fill_part-requires g c = HasPart-is c.split_head.ensures.part (HasWindow-front c
 pub returns-then-rest-eq0 : goal.returns-then-rest-eq0
 returns-then-rest-eq0 g c =
     let split = c.split_head.ensures.split in
-    let sum = split.sum in
-    let one = sym (touched-all split c.if-rest-eq0.true) ∙ touched-part c.split_head.ensures.part in
+    let one = c.split_head.ensures.one c.if-rest-eq0.true in
     let few = part_loads-most g.C.Elem.BitStore.BITS c.split_head.result.0 in
     let edges = fill_loads-some c.args.window.len c.if-window-eq0.false in
     let cost = c.fill_part.ensures.cost in
@@ -49,8 +47,6 @@ fill_aligned-requires g c =
 pub returns : goal.returns
 returns g c =
     let split = c.split_head.ensures.split in
-    let part = touched-part c.split_head.ensures.part in
-    let all = touched-split split (width_some _ g.met.C.Elem.BitStore.width_law) in
     let few = part_loads-most g.C.Elem.BitStore.BITS c.split_head.result.0 in
     let edges = fill_loads-some c.args.window.len c.if-window-eq0.false in
     let cost = c.fill_part.ensures.cost in

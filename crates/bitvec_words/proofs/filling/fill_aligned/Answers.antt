@@ -1,11 +1,10 @@
 use Rattle.std.proofs.Common.{arith, refl}
 use Rattle.bitvec_base.specs.WritesLaws.{HasWindow-kept, Writes-is}
-use Rattle.bitvec_store.specs.WidthLaws.{width_some}
 use Rattle.bitvec_words.specs.FillingLaws.{replicate-is}
-use Rattle.bitvec_words.specs.TouchedLaws.{part_loads-most, touched-whole}
+use Rattle.bitvec_words.specs.TouchedLaws.{part_loads-most}
 use Rattle.bitvec_words.specs.WholeLaws.{window-end}
 use Rattle.bitvec_words.proofs.CostLemmas.{costs-both, costs-most}
-use Rattle.bitvec_words.proofs.SplitLemmas.{HasPart-is, HasWindow-behind, HasWindow-front, IsPart-tail, Writes-all, Writes-filled_split, touched-all, touched-part, touched-split}
+use Rattle.bitvec_words.proofs.SplitLemmas.{HasPart-is, HasWindow-behind, HasWindow-front, Writes-all, Writes-filled_split}
 use Rattle.bitvec_words.proofs.filling.fill_aligned.Goals as goal
 
 pub split_tail-first-requires : goal.split_tail-first-requires
@@ -17,9 +16,6 @@ fill_whole-requires g c = HasWindow-front c.split_tail-first.ensures.split c.req
 pub returns-then-tail-eq0 : goal.returns-then-tail-eq0
 returns-then-tail-eq0 g c =
     let split = c.split_tail-first.ensures.split in
-    let sum = split.sum in
-    let whole = touched-whole g.C.Elem.BitStore.BITS c.split_tail-first.result.0 c.split_tail-first.result.1 (width_some _ g.met.C.Elem.BitStore.width_law) in
-    let all = touched-all split (omega arith) in
     let cost = c.fill_whole.ensures.cost in
     record {
       writes = Writes-is _ _ _ _ _ _ _ (Writes-all split (omega arith) c.fill_whole.ensures.writes) (replicate-is _ _ _ (omega arith));
@@ -31,15 +27,11 @@ returns-then-tail-eq0 g c =
 pub fill_part-requires : goal.fill_part-requires
 fill_part-requires g c =
     let told = c.split_tail-first.ensures in
-    HasPart-is (IsPart-tail _ c.split_tail-first.result.2 told.from told.bound c.if-tail-eq0.false) (HasWindow-kept _ _ _ _ (HasWindow-behind told.split c.requires.window) c.fill_whole.ensures.writes.elements)
+    HasPart-is (told.part c.if-tail-eq0.false) (HasWindow-kept _ _ _ _ (HasWindow-behind told.split c.requires.window) c.fill_whole.ensures.writes.elements)
 
 pub returns : goal.returns
 returns g c =
     let told = c.split_tail-first.ensures in
-    let some = width_some _ g.met.C.Elem.BitStore.width_law in
-    let whole = touched-whole g.C.Elem.BitStore.BITS c.split_tail-first.result.0 c.split_tail-first.result.1 some in
-    let part = touched-part (IsPart-tail g.C.Elem.BitStore.BITS c.split_tail-first.result.2 told.from told.bound c.if-tail-eq0.false) in
-    let all = touched-split told.split some in
     let few = part_loads-most g.C.Elem.BitStore.BITS c.split_tail-first.result.2 in
     let cost = c.fill_whole.ensures.cost in
     let more = c.fill_part.ensures.cost in

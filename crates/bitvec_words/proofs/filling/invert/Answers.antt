@@ -1,11 +1,9 @@
-use Rattle.std.proofs.Common.{arith, refl, sym, ◌∙◌, ap, map, not}
+use Rattle.std.proofs.Common.{arith, refl, sym, ap, map, not}
 use Rattle.bitvec_base.specs.WritesLaws.{HasWindow-kept, Writes-empty, Writes-is}
-use Rattle.bitvec_store.specs.WidthLaws.{width_some}
 use Rattle.bitvec_cells.specs.WalkLaws.{touched-none}
 use Rattle.bitvec_words.specs.WholeLaws.{list-empty, window-end}
-use Rattle.bitvec_words.specs.WordLaws.{width-some}
 use Rattle.bitvec_words.proofs.CostLemmas.{costs-sum}
-use Rattle.bitvec_words.proofs.SplitLemmas.{HasPart-is, HasWindow-behind, HasWindow-front, Writes-flipped_all, Writes-flipped_split, touched-all, touched-part, touched-split}
+use Rattle.bitvec_words.proofs.SplitLemmas.{HasPart-is, HasWindow-behind, HasWindow-front, Writes-flipped_all, Writes-flipped_split}
 use Rattle.bitvec_words.proofs.filling.invert.Goals as goal
 
 pub returns-then-window-eq0 : goal.returns-then-window-eq0
@@ -17,9 +15,6 @@ returns-then-window-eq0 g c =
       cost = rw none (record { borrow = refl; loads = omega arith; stores = omega arith });
     }
 
-pub nonzero_rem-window : goal.nonzero_rem-window
-nonzero_rem-window g c = width-some _ _ g.met.C.Elem.BitStore.width_law c.BITS-bits.ensures
-
 pub split_head-requires : goal.split_head-requires
 split_head-requires g c = record { some = omega arith; end = window-end _ _ c.args.window c.requires }
 
@@ -29,7 +24,7 @@ invert_part-requires g c = HasPart-is c.split_head.ensures.part (HasWindow-front
 pub returns-then-rest-eq0 : goal.returns-then-rest-eq0
 returns-then-rest-eq0 g c =
     let split = c.split_head.ensures.split in
-    let one = sym (touched-all split c.if-rest-eq0.true) ∙ touched-part c.split_head.ensures.part in
+    let one = c.split_head.ensures.one c.if-rest-eq0.true in
     record { writes = Writes-flipped_all split c.if-rest-eq0.true c.invert_part.ensures.writes; cost = rw one c.invert_part.ensures.cost }
 
 pub invert_aligned-requires-2 : goal.invert_aligned-requires-2
@@ -40,8 +35,6 @@ invert_aligned-requires-2 g c =
 pub returns : goal.returns
 returns g c =
     let split = c.split_head.ensures.split in
-    let part = touched-part c.split_head.ensures.part in
-    let all = touched-split split (width_some _ g.met.C.Elem.BitStore.width_law) in
     record {
       writes = Writes-flipped_split split g.O.BitOrder.at c.requires c.invert_part.ensures.writes c.invert_aligned-2.ensures.writes;
       cost = costs-sum c.invert_part.ensures.cost c.invert_aligned-2.ensures.cost (omega arith) (omega arith);

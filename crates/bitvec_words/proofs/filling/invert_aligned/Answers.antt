@@ -1,10 +1,8 @@
-use Rattle.std.proofs.Common.{arith, sym, ◌∙◌}
+use Rattle.std.proofs.Common.{arith}
 use Rattle.bitvec_base.specs.WritesLaws.{HasWindow-kept}
-use Rattle.bitvec_store.specs.WidthLaws.{width_some}
-use Rattle.bitvec_words.specs.TouchedLaws.{touched-whole}
 use Rattle.bitvec_words.specs.WholeLaws.{window-end}
 use Rattle.bitvec_words.proofs.CostLemmas.{costs-sum}
-use Rattle.bitvec_words.proofs.SplitLemmas.{HasPart-is, HasWindow-behind, HasWindow-front, IsPart-tail, Writes-flipped_all, Writes-flipped_split, touched-all, touched-part, touched-split}
+use Rattle.bitvec_words.proofs.SplitLemmas.{HasPart-is, HasWindow-behind, HasWindow-front, Writes-flipped_all, Writes-flipped_split}
 use Rattle.bitvec_words.proofs.filling.invert_aligned.Goals as goal
 
 pub split_tail-first-requires : goal.split_tail-first-requires
@@ -16,21 +14,16 @@ invert_whole-requires g c = HasWindow-front c.split_tail-first.ensures.split c.r
 pub returns-then-tail-eq0 : goal.returns-then-tail-eq0
 returns-then-tail-eq0 g c =
     let split = c.split_tail-first.ensures.split in
-    let whole = touched-whole g.C.Elem.BitStore.BITS c.split_tail-first.result.0 c.split_tail-first.result.1 (width_some _ g.met.C.Elem.BitStore.width_law) in
-    record { writes = Writes-flipped_all split (omega arith) c.invert_whole.ensures.writes; cost = rw (sym (touched-all split (omega arith)) ∙ whole) c.invert_whole.ensures.cost }
+    record { writes = Writes-flipped_all split (omega arith) c.invert_whole.ensures.writes; cost = rw (c.split_tail-first.ensures.whole c.if-tail-eq0.true) c.invert_whole.ensures.cost }
 
 pub invert_part-requires : goal.invert_part-requires
 invert_part-requires g c =
     let told = c.split_tail-first.ensures in
-    HasPart-is (IsPart-tail _ c.split_tail-first.result.2 told.from told.bound c.if-tail-eq0.false) (HasWindow-kept _ _ _ _ (HasWindow-behind told.split c.requires.window) c.invert_whole.ensures.writes.elements)
+    HasPart-is (told.part c.if-tail-eq0.false) (HasWindow-kept _ _ _ _ (HasWindow-behind told.split c.requires.window) c.invert_whole.ensures.writes.elements)
 
 pub returns : goal.returns
 returns g c =
     let told = c.split_tail-first.ensures in
-    let some = width_some _ g.met.C.Elem.BitStore.width_law in
-    let whole = touched-whole g.C.Elem.BitStore.BITS c.split_tail-first.result.0 c.split_tail-first.result.1 some in
-    let part = touched-part (IsPart-tail g.C.Elem.BitStore.BITS c.split_tail-first.result.2 told.from told.bound c.if-tail-eq0.false) in
-    let all = touched-split told.split some in
     record {
       writes = Writes-flipped_split told.split g.O.BitOrder.at c.requires.window c.invert_whole.ensures.writes c.invert_part.ensures.writes;
       cost = costs-sum c.invert_whole.ensures.cost c.invert_part.ensures.cost (omega arith) (omega arith);

@@ -1,7 +1,7 @@
 use Rattle.std.proofs.Common.{rules, ◌≡◌, arith}
 use Rattle.bitvec_store.specs.WidthLaws.{width_some}
 use Rattle.bitvec_words.specs.FillingLaws.{Writes-flipped, Writes-none_flipped}
-use Rattle.bitvec_words.proofs.PlaceLemmas.{element-few, element-inside}
+use Rattle.bitvec_words.proofs.PlaceLemmas.{element-inside}
 use Rattle.bitvec_words.proofs.filling.invert_whole.Goals as goal
 
 pub loop-step-init : goal.loop-step-init
@@ -20,20 +20,11 @@ loop-step-preserved g c =
       cost = search rules;
     }
 
-pub overflow_add-first : goal.overflow_add-first
-overflow_add-first g c = let few = element-few _ _ c.args.first c.args.count _ (width_some _ g.met.C.Elem.BitStore.width_law) c.requires c.loop-step-test.true in omega arith
-
 pub load-element-requires : goal.load-element-requires
 load-element-requires g c = rw c.loop-step.invariant.writes.elements (element-inside _ _ c.args.first c.args.count _ (width_some _ g.met.C.Elem.BitStore.width_law) c.requires c.loop-step-test.true)
 
-pub overflow_add-first-in-loop-step : goal.overflow_add-first-in-loop-step
-overflow_add-first-in-loop-step g c = let few = element-few _ _ c.args.first c.args.count _ (width_some _ g.met.C.Elem.BitStore.width_law) c.requires c.loop-step-test.true in omega arith
-
 pub store-requires : goal.store-requires
 store-requires g c = rw (c.load-element.ensures.numbers, c.loop-step.invariant.writes.elements) (element-inside _ _ c.args.first c.args.count _ (width_some _ g.met.C.Elem.BitStore.width_law) c.requires c.loop-step-test.true)
-
-pub loop-step-smaller : goal.loop-step-smaller
-loop-step-smaller g c = omega arith
 
 pub returns-clause-writes : goal.returns-clause-writes
 returns-clause-writes g c =

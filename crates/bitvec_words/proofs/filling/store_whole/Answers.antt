@@ -19,8 +19,6 @@ store-requires g c =
     let more = c.loop-step-test.true in
     let order = mul-le-mul_left g.C.Elem.BitStore.BITS more in
     let some = width_some _ g.met.C.Elem.BitStore.width_law in
-    let start = c.requires.within.start in
-    let len = c.requires.within.len in
     rw inv.elements (element_of g.C.Elem.BitStore.BITS (c.args.first + c.loop-step.step) 0 _ (omega arith))
 
 pub loop-step-preserved : goal.loop-step-preserved

@@ -17,9 +17,7 @@ load-element-requires g c = (HasPart-is c.split_head.ensures.part (HasWindow-fro
 
 pub gathered-word-requires : goal.gathered-word-requires
 gathered-word-requires g c =
-    let part = c.split_head.ensures.part in
     let split = rw c.front_window.ensures at c.split_head.ensures.split in
-    let sum = split.sum in
     record { order = omega arith; bound = omega arith; fits = omega arith }
 
 pub len-requires : goal.len-requires

@@ -6,17 +6,10 @@ use Rattle.bitvec_words.specs.Front.{front_window}
 use Rattle.bitvec_words.specs.MovedLaws.{written-padded}
 use Rattle.bitvec_words.specs.TouchedLaws.{touched-word}
 use Rattle.bitvec_words.specs.WholeLaws.{window-end}
-use Rattle.bitvec_words.specs.WordLaws.{width-some}
 use Rattle.bitvec_words.proofs.FrontLemmas.{part-front, word-front}
 use Rattle.bitvec_words.proofs.PlaceLemmas.{HasWindow-first_bits, HasWindow-word}
 use Rattle.bitvec_words.proofs.SplitLemmas.{HasPart-is, HasWindow-front, touched-part}
 use Rattle.bitvec_words.proofs.fronts.words_load_front.Goals as goal
-
-pub nonzero_rem-window : goal.nonzero_rem-window
-nonzero_rem-window g c = width-some _ _ g.met.C.Elem.BitStore.width_law c.BITS-bits.ensures
-
-pub nonzero_div-window : goal.nonzero_div-window
-nonzero_div-window g c = width-some _ _ g.met.C.Elem.BitStore.width_law c.BITS-bits.ensures
 
 pub load_elements-word-requires : goal.load_elements-word-requires
 load_elements-word-requires g c =
@@ -48,9 +41,7 @@ len-requires g c = let part = c.split_head.ensures.part in omega arith
 
 pub moved-word-requires : goal.moved-word-requires
 moved-word-requires g c =
-    let part = c.split_head.ensures.part in
     let split = rw c.front_window.ensures at c.split_head.ensures.split in
-    let sum = split.sum in
     rw c.len.ensures (record { source = omega arith; target = omega arith })
 
 pub returns : goal.returns
@@ -61,7 +52,6 @@ returns g c =
     let head = c.split_head.result.0 in
     let is = c.split_head.ensures.part in
     let split = rw c.front_window.ensures at c.split_head.ensures.split in
-    let sum = split.sum in
     let place = split.start in
     let part : head ≡ first_part_of b (front_window c.args.window) = rw c.front_window.ensures at c.split_head.ensures.is_first in
     let one = touched-part is in

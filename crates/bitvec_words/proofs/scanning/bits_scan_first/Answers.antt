@@ -2,14 +2,10 @@ use Rattle.std.proofs.Common.{◌+◌, arith}
 use Rattle.bitvec_store.specs.WidthLaws.{width_some}
 use Rattle.bitvec_words.specs.TouchedLaws.{touched-first}
 use Rattle.bitvec_words.specs.WholeLaws.{window-end}
-use Rattle.bitvec_words.specs.WordLaws.{width-some}
 use Rattle.bitvec_words.proofs.CostLemmas.{reads-both, reads-exact, reads-most}
 use Rattle.bitvec_words.proofs.ScanLemmas.{first-inside}
-use Rattle.bitvec_words.proofs.SplitLemmas.{HasPart-is, HasWindow-behind, HasWindow-front, first-loads_behind, split-behind, split-few, split-found, split-lacks, touched-part, touched-split}
+use Rattle.bitvec_words.proofs.SplitLemmas.{touched-part, HasPart-is, HasWindow-behind, HasWindow-front, first-loads_behind, split-behind, split-few, split-found, split-lacks}
 use Rattle.bitvec_words.proofs.scanning.bits_scan_first.Goals as goal
-
-pub nonzero_rem-window : goal.nonzero_rem-window
-nonzero_rem-window g c = width-some _ _ g.met.C.Elem.BitStore.width_law c.BITS.ensures
 
 pub split_head-requires : goal.split_head-requires
 split_head-requires g c = record { some = omega arith; end = window-end _ _ c.args.window c.requires }
@@ -32,8 +28,6 @@ first_aligned-requires-2 g c =
 pub returns-in_err-found : goal.returns-in_err-found
 returns-in_err-found g c =
     let split = c.split_head.ensures.split in
-    let part = touched-part c.split_head.ensures.part in
-    let all = touched-split split (width_some _ g.met.C.Elem.BitStore.width_law) in
     let rest = rw c.in_default.ensures.reads.numbers at c.in_err-found.ensures in
     rw c.from_residual.ensures
     (record {
@@ -44,18 +38,16 @@ returns-in_err-found g c =
 pub overflow_add-result : goal.overflow_add-result
 overflow_add-result g c =
     let rest = rw c.in_default.ensures.reads.numbers at c.in_ok-found.ensures.value in
-    let few = split-few c.split_head.ensures.split g.O.BitOrder.at c.requires c.args.want _ c.in_default.ensures.value rest in
-    omega arith
+    omega (arith, split-few c.split_head.ensures.split g.O.BitOrder.at c.requires c.args.want _ c.in_default.ensures.value rest)
 
 pub returns : goal.returns
 returns g c =
     let split = c.split_head.ensures.split in
-    let part = touched-part c.split_head.ensures.part in
     let rest = rw c.in_default.ensures.reads.numbers at c.in_ok-found.ensures in
     let below = first-inside _ g.O.BitOrder.at _ _ c.args.want _ (HasWindow-behind split c.requires) rest.value in
     let all = first-loads_behind split (width_some _ g.met.C.Elem.BitStore.width_law) _ below in
     rw c.len.ensures
     (record {
       value = split-behind split g.O.BitOrder.at c.requires c.args.want _ c.in_default.ensures.value rest.value;
-      reads = reads-both (reads-exact c.in_default.ensures.reads) rest.reads (omega arith);
+      reads = reads-both (reads-exact c.in_default.ensures.reads) rest.reads (omega (arith, touched-part c.split_head.ensures.part));
     })

@@ -49,7 +49,6 @@ returns g c =
     let here = rw c.in_default.ensures.reads.numbers at c.last_in_part-2.ensures in
     let inside = last-inside _ g.O.BitOrder.at _ _ c.args.want _ (HasWindow-front split c.requires) here.value in
     let most = last-loads_front split (width_some _ g.met.C.Elem.BitStore.width_law) _ inside in
-    let part = c.split_head.ensures.part.some in
     let some = last_loads-some g.C.Elem.BitStore.BITS (part_window g.C.Elem.BitStore.BITS c.split_head.result.0) _ (omega arith) inside in
     record {
       value = split-last_front split g.O.BitOrder.at c.requires c.args.want _ c.in_default.ensures.value here.value;

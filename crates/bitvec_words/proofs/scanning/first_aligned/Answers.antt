@@ -1,11 +1,7 @@
 use Rattle.bitvec_store.specs.WidthLaws.{width_some}
-use Rattle.bitvec_words.specs.WordLaws.{width-some}
 use Rattle.bitvec_words.proofs.CostLemmas.{reads-most}
 use Rattle.bitvec_words.proofs.WordScanLemmas.{HasWindow-touched, first-touched, first-touched_all, first-touched_lacks, first-touched_loads}
 use Rattle.bitvec_words.proofs.scanning.first_aligned.Goals as goal
-
-pub nonzero_div-window : goal.nonzero_div-window
-nonzero_div-window g c = width-some _ _ g.met.C.Elem.BitStore.width_law c.BITS-bits.ensures
 
 pub first_whole-requires : goal.first_whole-requires
 first_whole-requires g c =

@@ -4,11 +4,11 @@ use Rattle.bitvec_store.specs.WidthLaws.{width_some}
 use Rattle.bitvec_base.specs.Lists.{first_place}
 use Rattle.bitvec_base.specs.PlacesLaws.{first_place-nil}
 use Rattle.bitvec_words.specs.TouchedLaws.{touched-first, touched-whole}
-use Rattle.bitvec_words.specs.WholeLaws.{list-empty, window-end}
+use Rattle.bitvec_words.specs.WholeLaws.{list-empty}
 use Rattle.bitvec_words.proofs.CostLemmas.{reads-exact, reads-most}
 use Rattle.bitvec_words.proofs.ScanLemmas.{first-below, first-inside, first-must, first-passed}
 use Rattle.bitvec_words.proofs.SplitLemmas.{elements-split, first-element_has, first-element_lacks, first-loads_behind}
-use Rattle.bitvec_words.proofs.PlaceLemmas.{element-few, element-inside, elements-few}
+use Rattle.bitvec_words.proofs.PlaceLemmas.{element-inside}
 use Rattle.bitvec_words.proofs.scanning.first_whole.Goals as goal
 
 pub loop-step-init : goal.loop-step-init
@@ -17,9 +17,6 @@ loop-step-init g c = record {
   reads = search rules;
 }
 
-pub overflow_add-first : goal.overflow_add-first
-overflow_add-first g c = let few = element-few _ _ c.args.first c.args.count _ (width_some _ g.met.C.Elem.BitStore.width_law) c.requires c.loop-step-test.true in omega arith
-
 pub load-element-requires : goal.load-element-requires
 load-element-requires g c = rw c.loop-step.invariant.reads.numbers (element-inside _ _ c.args.first c.args.count _ (width_some _ g.met.C.Elem.BitStore.width_law) c.requires c.loop-step-test.true)
 
@@ -27,15 +24,11 @@ pub returns-in_err-found : goal.returns-in_err-found
 returns-in_err-found g c =
     absurd (first-must _ g.O.BitOrder.at (g.met.O.BitOrder.permutes _ g.met.C.Elem.BitStore.width_law) _ _ _ c.args.want (c.to_u128.ensures.number ∙ c.xor.ensures) c.if-to_u128-ne0.true c.load-element.ensures.in_range c.filled-lacking.ensures c.in_err-found.ensures)
 
-pub overflow_mul-result : goal.overflow_mul-result
-overflow_mul-result g c = let few = elements-few _ _ c.args.first c.args.count _ (width_some _ g.met.C.Elem.BitStore.width_law) c.requires c.loop-step-test.true _ c.BITS.ensures in omega arith
-
 pub overflow_add-result : goal.overflow_add-result
 overflow_add-result g c =
     let inv = c.loop-step.invariant in
     let found = first-element_has _ g.O.BitOrder.at _ _ _ _ _ c.args.want (width_some _ g.met.C.Elem.BitStore.width_law) c.requires c.loop-step-test.true (rw inv.reads.numbers at c.load-element.ensures.value) inv.none _ c.in_ok-found.ensures in
     let below = first-inside _ g.O.BitOrder.at _ _ c.args.want _ c.requires found in
-    let end = window-end _ _ _ c.requires in
     rw c.BITS.ensures (omega arith)
 
 pub returns-then-to_u128-ne0 : goal.returns-then-to_u128-ne0
@@ -53,9 +46,6 @@ returns-then-to_u128-ne0 g c =
       value = first-element_has b g.O.BitOrder.at _ _ _ _ _ c.args.want some c.requires c.loop-step-test.true (rw inv.reads.numbers at c.load-element.ensures.value) inv.none _ c.in_ok-found.ensures;
       reads = record { numbers = search rules; borrow = search rules; loads = omega arith; stores = search rules };
     })
-
-pub loop-step-smaller : goal.loop-step-smaller
-loop-step-smaller g c = omega arith
 
 pub loop-step-preserved : goal.loop-step-preserved
 loop-step-preserved g c =

@@ -1,10 +1,10 @@
-use Rattle.std.proofs.Common.{arith, refl, ◌∙◌, ap}
+use Rattle.std.proofs.Common.{arith, ◌∙◌, ap, refl}
 use Rattle.bitvec_base.specs.Lists.{last_place}
 use Rattle.bitvec_store.specs.WidthLaws.{width_some}
 use Rattle.bitvec_words.specs.WholeLaws.{window-end}
 use Rattle.bitvec_words.proofs.CostLemmas.{reads-both, reads-exact, reads-most}
 use Rattle.bitvec_words.proofs.ScanLemmas.{last-inside, last_loads-some}
-use Rattle.bitvec_words.proofs.SplitLemmas.{HasPart-is, HasWindow-behind, HasWindow-front, IsPart-tail, last-loads_front, last_loads-all, list-all, split-last, split-last_few, split-last_front, touched-part}
+use Rattle.bitvec_words.proofs.SplitLemmas.{HasPart-is, HasWindow-behind, HasWindow-front, last-loads_front, last_loads-all, list-all, split-last, split-last_few, split-last_front, touched-part}
 use Rattle.bitvec_words.proofs.scanning.last_aligned.Goals as goal
 
 pub split_tail-first-requires : goal.split_tail-first-requires
@@ -25,13 +25,7 @@ returns-then-tail-eq0 g c =
 pub last_in_part-requires : goal.last_in_part-requires
 last_in_part-requires g c =
     let told = c.split_tail-first.ensures in
-    HasPart-is (IsPart-tail _ c.split_tail-first.result.2 told.from told.bound c.if-tail-eq0.false) (HasWindow-behind told.split c.requires.window)
-
-pub overflow_mul-result : goal.overflow_mul-result
-overflow_mul-result g c =
-    let sum = c.split_tail-first.ensures.split.sum in
-    let end = window-end _ _ c.args.window c.requires.window in
-    rw c.BITS.ensures (omega arith)
+    HasPart-is (told.part c.if-tail-eq0.false) (HasWindow-behind told.split c.requires.window)
 
 pub overflow_add-result : goal.overflow_add-result
 overflow_add-result g c =
@@ -42,8 +36,7 @@ pub returns-in-Some : goal.returns-in-Some
 returns-in-Some g c =
     let found = split-last c.split_tail-first.ensures.split g.O.BitOrder.at c.requires.window c.args.want _ c.in-Some.ensures.value in
     let inside = last-inside _ g.O.BitOrder.at _ c.args.window c.args.want _ c.requires.window found in
-    let below = inside _ refl in
-    let some = last_loads-some g.C.Elem.BitStore.BITS c.args.window _ (omega arith) inside in
+    let some = last_loads-some g.C.Elem.BitStore.BITS c.args.window _ (omega (arith, inside _ refl)) inside in
     rw c.BITS.ensures (record { value = found; reads = reads-most (reads-exact c.in-Some.ensures.reads) some })
 
 pub last_whole-requires-2 : goal.last_whole-requires-2
@@ -54,7 +47,7 @@ returns g c =
     let told = c.split_tail-first.ensures in
     let here = rw c.in_default.ensures.reads.numbers at c.last_whole-2.ensures in
     let most = last-loads_front told.split (width_some _ g.met.C.Elem.BitStore.width_law) _ (last-inside _ g.O.BitOrder.at _ _ c.args.want _ (HasWindow-front told.split c.requires.window) here.value) in
-    let part = touched-part (IsPart-tail g.C.Elem.BitStore.BITS c.split_tail-first.result.2 told.from told.bound c.if-tail-eq0.false) in
+    let part = touched-part (told.part c.if-tail-eq0.false) in
     record {
       value = split-last_front told.split g.O.BitOrder.at c.requires.window c.args.want _ c.in_default.ensures.value here.value;
       reads = reads-both (reads-exact c.in_default.ensures.reads) here.reads (omega arith);

@@ -4,11 +4,11 @@ use Rattle.bitvec_base.specs.Lists.{last_place}
 use Rattle.bitvec_base.specs.PlacesLaws.{last_place-nil}
 use Rattle.bitvec_words.specs.Elements.{elements_window}
 use Rattle.bitvec_words.specs.TouchedLaws.{touched-whole}
-use Rattle.bitvec_words.specs.WholeLaws.{list-empty, window-end}
+use Rattle.bitvec_words.specs.WholeLaws.{list-empty}
 use Rattle.bitvec_words.proofs.CostLemmas.{reads-exact, reads-most}
 use Rattle.bitvec_words.proofs.ScanLemmas.{last-below, last-inside, last-must, last-passed, last_loads-some, range-element}
 use Rattle.bitvec_words.proofs.SplitLemmas.{elements-split, last-element_has, last-element_lacks, last-loads_front}
-use Rattle.bitvec_words.proofs.PlaceLemmas.{element-few, element-inside, elements-few}
+use Rattle.bitvec_words.proofs.PlaceLemmas.{element-inside}
 use Rattle.bitvec_words.proofs.scanning.last_whole.Goals as goal
 
 pub loop-step-init : goal.loop-step-init
@@ -19,9 +19,6 @@ loop-step-init g c =
       none = sym (ap (λ (l : List Bool). last_place c.args.want l) (list-empty _ _ _ _ empty) ∙ last_place-nil c.args.want);
       reads = search rules;
     }
-
-pub overflow_add-first : goal.overflow_add-first
-overflow_add-first g c = let few = element-few _ _ c.args.first c.args.count _ (width_some _ g.met.C.Elem.BitStore.width_law) c.requires (let more : c.loop-step.step - 1 < c.args.count = omega arith in more) in omega arith
 
 pub load-element-requires : goal.load-element-requires
 load-element-requires g c =
@@ -37,11 +34,6 @@ returns-in_err-found g c =
     let none = c.in_err-found.ensures ∙ ap (λ (l : List Bool). last_place c.args.want l) (range-element b at _ _ c.BITS-bits.ensures) in
     absurd (last-must b at (g.met.O.BitOrder.permutes _ g.met.C.Elem.BitStore.width_law) _ _ _ c.args.want (c.to_u128.ensures.number ∙ c.xor.ensures) c.if-to_u128-ne0.true c.load-element.ensures.in_range c.filled-lacking.ensures none)
 
-pub overflow_mul-result : goal.overflow_mul-result
-overflow_mul-result g c =
-    let few = elements-few _ _ c.args.first c.args.count (c.loop-step.step - 1) (width_some _ g.met.C.Elem.BitStore.width_law) c.requires (omega arith) _ c.BITS-bits.ensures in
-    omega arith
-
 pub overflow_add-result : goal.overflow_add-result
 overflow_add-result g c =
     let b = g.C.Elem.BitStore.BITS in
@@ -50,7 +42,6 @@ overflow_add-result g c =
     let here = c.in_ok-found.ensures ∙ ap (λ (l : List Bool). last_place c.args.want l) (range-element b at _ _ c.BITS-bits.ensures) in
     let found = last-element_has b at _ _ _ (c.loop-step.step - 1) _ c.args.want (width_some _ g.met.C.Elem.BitStore.width_law) c.requires (omega arith) (rw inv.reads.numbers at c.load-element.ensures.value) _ (omega arith) inv.none _ here in
     let below = last-inside b at _ _ c.args.want _ c.requires found _ refl in
-    let end = window-end _ _ _ c.requires in
     rw c.BITS-bits.ensures (omega arith)
 
 pub returns-then-to_u128-ne0 : goal.returns-then-to_u128-ne0
@@ -72,9 +63,6 @@ returns-then-to_u128-ne0 g c =
       value = last-element_has b at _ _ _ _ _ c.args.want some c.requires (omega arith) (rw inv.reads.numbers at c.load-element.ensures.value) _ (omega arith) inv.none _ here;
       reads = record { numbers = load.numbers ∙ inv.reads.numbers; borrow = load.borrow ∙ inv.reads.borrow; loads = omega arith; stores = load.stores ∙ inv.reads.stores };
     })
-
-pub loop-step-smaller : goal.loop-step-smaller
-loop-step-smaller g c = omega arith
 
 pub loop-step-preserved : goal.loop-step-preserved
 loop-step-preserved g c =

@@ -1,10 +1,6 @@
 use Rattle.bitvec_store.specs.WidthLaws.{width_some}
-use Rattle.bitvec_words.specs.WordLaws.{width-some}
 use Rattle.bitvec_words.proofs.WordScanLemmas.{HasWindow-touched, first-touched, first-touched_lacks, touched-ceil}
 use Rattle.bitvec_words.proofs.scanning_words.first_from_edge.Goals as goal
-
-pub nonzero_div-window : goal.nonzero_div-window
-nonzero_div-window g c = width-some _ _ g.met.C.Elem.BitStore.width_law c.BITS-bits.ensures
 
 pub first_in_elements-requires : goal.first_in_elements-requires
 first_in_elements-requires g c =

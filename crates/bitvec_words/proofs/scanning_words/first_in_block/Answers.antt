@@ -1,26 +1,13 @@
-use Rattle.std.proofs.Common.{◌/◌, arith, sym, ◌∙◌, ap}
-use Rattle.std.proofs.Math.Nat.{div-le_self}
+use Rattle.std.proofs.Common.{arith, ◌∙◌, ap}
 use Rattle.bitvec_base.specs.Lists.{first_place}
-use Rattle.bitvec_base.specs.PlacesLaws.{first_place-below}
-use Rattle.bitvec_store.specs.WidthLaws.{width_some}
-use Rattle.bitvec_words.specs.WordLaws.{width-some}
 use Rattle.bitvec_words.proofs.CostLemmas.{reads-four}
 use Rattle.bitvec_words.proofs.OrderedLemmas.{block-lacks, block-ordered}
-use Rattle.bitvec_words.proofs.ScanLemmas.{first-behind, first-front, first-lacks}
-use Rattle.bitvec_words.proofs.WordScanLemmas.{block_pair, block_words, elements-bound, length-two, list-pair, pair-inside, words}
+use Rattle.bitvec_words.proofs.WordScanLemmas.{block_pair, block_words, list-pair, pair-inside, words}
 use Rattle.bitvec_words.proofs.scanning_words.first_in_block.Goals as goal
 
 pub load-one-requires : goal.load-one-requires
 load-one-requires g c =
-    let inside = pair-inside _ c.args.first g.met.C.Elem.BitStore.width_law (rw c.BITS-bits.ensures at c.if-bits-gt-WORD_BITS.true) c.requires in
-    omega arith
-
-pub overflow_add-first : goal.overflow_add-first
-overflow_add-first g c =
-    let width = g.met.C.Elem.BitStore.width_law in
-    let pair = block_pair _ width (rw c.BITS-bits.ensures at c.if-bits-gt-WORD_BITS.true) in
-    let bound = elements-bound _ g.O.BitOrder.at _ c.args.first (256 / g.C.Elem.BitStore.BITS) c.requires (width_some _ width) in
-    omega arith
+    omega (arith, pair-inside _ c.args.first g.met.C.Elem.BitStore.width_law (rw c.BITS-bits.ensures at c.if-bits-gt-WORD_BITS.true) c.requires)
 
 pub load-two-requires : goal.load-two-requires
 load-two-requires g c =
@@ -37,9 +24,6 @@ returns-then-bits-gt-WORD_BITS g c =
       value = (rw (one.value, rw one.numbers at two.value) at c.first_in_pair.ensures) ∙ ap (first_place c.args.want) (list-pair _ c.args.first width wide c.requires g.O.BitOrder.at);
       reads = record { numbers = two.numbers ∙ one.numbers; borrow = two.borrow ∙ one.borrow; loads = omega arith; stores = two.stores ∙ one.stores };
     }
-
-pub nonzero_div-elements : goal.nonzero_div-elements
-nonzero_div-elements g c = width-some _ _ g.met.C.Elem.BitStore.width_law c.BITS-bits.ensures
 
 pub load_elements-one-requires : goal.load_elements-one-requires
 load_elements-one-requires g c =
@@ -63,27 +47,6 @@ load_elements-four-requires g c =
     rw (c.BITS-bits.ensures, c.load_elements-three.ensures.reads.numbers, c.load_elements-two.ensures.reads.numbers, c.load_elements-one.ensures.reads.numbers)
     (record { window = (words _ c.args.first g.met.C.Elem.BitStore.width_law narrow c.requires).four; narrow = narrow })
 
-pub overflow_add-first-2 : goal.overflow_add-first-2
-overflow_add-first-2 g c =
-    let all = words _ c.args.first g.met.C.Elem.BitStore.width_law (rw c.BITS-bits.ensures at c.if-bits-gt-WORD_BITS.false) c.requires in
-    rw c.BITS-bits.ensures (omega arith)
-
-pub overflow_mul-elements : goal.overflow_mul-elements
-overflow_mul-elements g c = let few = div-le_self 64 c.BITS-bits.result in omega arith
-
-pub overflow_add-first-3 : goal.overflow_add-first-3
-overflow_add-first-3 g c =
-    let all = words _ c.args.first g.met.C.Elem.BitStore.width_law (rw c.BITS-bits.ensures at c.if-bits-gt-WORD_BITS.false) c.requires in
-    rw c.BITS-bits.ensures (omega arith)
-
-pub overflow_mul-elements-2 : goal.overflow_mul-elements-2
-overflow_mul-elements-2 g c = let few = div-le_self 64 c.BITS-bits.result in omega arith
-
-pub overflow_add-first-4 : goal.overflow_add-first-4
-overflow_add-first-4 g c =
-    let all = words _ c.args.first g.met.C.Elem.BitStore.width_law (rw c.BITS-bits.ensures at c.if-bits-gt-WORD_BITS.false) c.requires in
-    rw c.BITS-bits.ensures (omega arith)
-
 pub returns-then-one-lacking-eq0-clause-value : goal.returns-then-one-lacking-eq0-clause-value
 returns-then-one-lacking-eq0-clause-value g c =
     let b = g.C.Elem.BitStore.BITS in
@@ -98,42 +61,6 @@ returns-then-one-lacking-eq0-clause-value g c =
     let bits_four = rw (c.BITS-bits.ensures, three.reads.numbers ∙ second) at c.load_elements-four.ensures.value in
     block-lacks b g.O.BitOrder.at (g.met.O.BitOrder.permutes b width) _ c.args.first width narrow c.requires c.args.want _ _ _ _ one.value bits_two bits_three bits_four _ c.filled-lacking.ensures c.if-one-lacking-eq0.true
 
-pub returns-in-Some-clause-value : goal.returns-in-Some-clause-value
-returns-in-Some-clause-value g c =
-    let b = g.C.Elem.BitStore.BITS in
-    let width = g.met.C.Elem.BitStore.width_law in
-    let narrow = rw c.BITS-bits.ensures at c.if-bits-gt-WORD_BITS.false in
-    let one = c.load_elements-one.ensures in
-    let two = c.load_elements-two.ensures in
-    let three = c.load_elements-three.ensures in
-    let second = two.reads.numbers ∙ one.reads.numbers in
-    let bits_two = rw (c.BITS-bits.ensures, one.reads.numbers) at two.value in
-    let bits_three = rw (c.BITS-bits.ensures, second) at three.value in
-    let bits_four = rw (c.BITS-bits.ensures, three.reads.numbers ∙ second) at c.load_elements-four.ensures.value in
-    let all = block-ordered b g.O.BitOrder.at (g.met.O.BitOrder.permutes b width) _ c.args.first width narrow c.requires c.args.want _ _ _ _ one.value bits_two bits_three bits_four _ _ _ _ c.ordered-one.ensures c.ordered-two.ensures c.ordered-three.ensures c.ordered-four.ensures in
-    first-front c.args.want _ _ _ _ c.in-Some.ensures all
-
-pub returns-in_err-found-clause-value : goal.returns-in_err-found-clause-value
-returns-in_err-found-clause-value g c =
-    let b = g.C.Elem.BitStore.BITS in
-    let width = g.met.C.Elem.BitStore.width_law in
-    let narrow = rw c.BITS-bits.ensures at c.if-bits-gt-WORD_BITS.false in
-    let one = c.load_elements-one.ensures in
-    let two = c.load_elements-two.ensures in
-    let three = c.load_elements-three.ensures in
-    let second = two.reads.numbers ∙ one.reads.numbers in
-    let bits_two = rw (c.BITS-bits.ensures, one.reads.numbers) at two.value in
-    let bits_three = rw (c.BITS-bits.ensures, second) at three.value in
-    let bits_four = rw (c.BITS-bits.ensures, three.reads.numbers ∙ second) at c.load_elements-four.ensures.value in
-    let all = block-ordered b g.O.BitOrder.at (g.met.O.BitOrder.permutes b width) _ c.args.first width narrow c.requires c.args.want _ _ _ _ one.value bits_two bits_three bits_four _ _ _ _ c.ordered-one.ensures c.ordered-two.ensures c.ordered-three.ensures c.ordered-four.ensures in
-    rw c.from_residual.ensures (first-lacks c.args.want _ _ _ c.in_default.ensures c.in_err-found.ensures all)
-
-pub overflow_add-result : goal.overflow_add-result
-overflow_add-result g c =
-    let below = first_place-below c.args.want _ _ (sym c.in_ok-found.ensures) in
-    let long = length-two g.O.BitOrder.at c.ordered-three.result c.ordered-four.result in
-    omega arith
-
 pub returns-clause-value : goal.returns-clause-value
 returns-clause-value g c =
     let b = g.C.Elem.BitStore.BITS in
@@ -147,16 +74,10 @@ returns-clause-value g c =
     let bits_three = rw (c.BITS-bits.ensures, second) at three.value in
     let bits_four = rw (c.BITS-bits.ensures, three.reads.numbers ∙ second) at c.load_elements-four.ensures.value in
     let all = block-ordered b g.O.BitOrder.at (g.met.O.BitOrder.permutes b width) _ c.args.first width narrow c.requires c.args.want _ _ _ _ one.value bits_two bits_three bits_four _ _ _ _ c.ordered-one.ensures c.ordered-two.ensures c.ordered-three.ensures c.ordered-four.ensures in
-    first-behind c.args.want _ _ _ 128 _ c.in_default.ensures c.in_ok-found.ensures (length-two g.O.BitOrder.at c.ordered-one.result c.ordered-two.result) all
+    c.first_of_four.ensures ∙ ap (first_place c.args.want) all
 
 pub returns-then-one-lacking-eq0-clause-reads : goal.returns-then-one-lacking-eq0-clause-reads
 returns-then-one-lacking-eq0-clause-reads g c = reads-four c.load_elements-one.ensures.reads c.load_elements-two.ensures.reads c.load_elements-three.ensures.reads c.load_elements-four.ensures.reads (block_words _ g.met.C.Elem.BitStore.width_law (rw c.BITS-bits.ensures at c.if-bits-gt-WORD_BITS.false))
-
-pub returns-in-Some-clause-reads : goal.returns-in-Some-clause-reads
-returns-in-Some-clause-reads g c = reads-four c.load_elements-one.ensures.reads c.load_elements-two.ensures.reads c.load_elements-three.ensures.reads c.load_elements-four.ensures.reads (block_words _ g.met.C.Elem.BitStore.width_law (rw c.BITS-bits.ensures at c.if-bits-gt-WORD_BITS.false))
-
-pub returns-in_err-found-clause-reads : goal.returns-in_err-found-clause-reads
-returns-in_err-found-clause-reads g c = reads-four c.load_elements-one.ensures.reads c.load_elements-two.ensures.reads c.load_elements-three.ensures.reads c.load_elements-four.ensures.reads (block_words _ g.met.C.Elem.BitStore.width_law (rw c.BITS-bits.ensures at c.if-bits-gt-WORD_BITS.false))
 
 pub returns-clause-reads : goal.returns-clause-reads
 returns-clause-reads g c = reads-four c.load_elements-one.ensures.reads c.load_elements-two.ensures.reads c.load_elements-three.ensures.reads c.load_elements-four.ensures.reads (block_words _ g.met.C.Elem.BitStore.width_law (rw c.BITS-bits.ensures at c.if-bits-gt-WORD_BITS.false))

@@ -2,17 +2,10 @@ use Rattle.std.proofs.Common.{◌/◌, arith, rules, sym, ◌∙◌, ap, Bool, L
 use Rattle.bitvec_base.specs.Lists.{first_place}
 use Rattle.bitvec_base.specs.PlacesLaws.{first_place-nil}
 use Rattle.bitvec_words.specs.WholeLaws.{list-empty}
-use Rattle.bitvec_words.specs.WordLaws.{width-some}
 use Rattle.bitvec_words.proofs.CostLemmas.{reads-before, reads-both, reads-exact, reads-sum}
 use Rattle.bitvec_words.proofs.SplitLemmas.{split-behind, split-few, split-lacks}
-use Rattle.bitvec_words.proofs.WordScanLemmas.{block, block_whole, blocks-bits, blocks-some, first-block_few, first-block_has, first-block_lacks, parted-blocks}
+use Rattle.bitvec_words.proofs.WordScanLemmas.{block, block_whole, blocks-bits, first-block_few, first-block_has, first-block_lacks, parted-blocks}
 use Rattle.bitvec_words.proofs.scanning_words.first_in_elements.Goals as goal
-
-pub nonzero_div-elements : goal.nonzero_div-elements
-nonzero_div-elements g c = width-some _ _ g.met.C.Elem.BitStore.width_law c.BITS.ensures
-
-pub nonzero_div-blocks : goal.nonzero_div-blocks
-nonzero_div-blocks g c = rw c.BITS.ensures (blocks-some _ g.met.C.Elem.BitStore.width_law)
 
 pub loop-step-init : goal.loop-step-init
 loop-step-init g c = record {
@@ -20,25 +13,8 @@ loop-step-init g c = record {
   reads = search rules;
 }
 
-pub overflow_mul-step : goal.overflow_mul-step
-overflow_mul-step g c =
-    let here = block _ 256 c.args.first c.args.count c.loop-step.step g.met.C.Elem.BitStore.width_law c.requires (rw c.BITS.ensures at c.loop-step-test.true) in
-    rw c.BITS.ensures (omega arith)
-
-pub overflow_add-first : goal.overflow_add-first
-overflow_add-first g c =
-    let here = block _ 256 c.args.first c.args.count c.loop-step.step g.met.C.Elem.BitStore.width_law c.requires (rw c.BITS.ensures at c.loop-step-test.true) in
-    rw c.BITS.ensures (omega arith)
-
 pub first_in_block-requires : goal.first_in_block-requires
 first_in_block-requires g c = rw (c.loop-step.invariant.reads.numbers, c.BITS.ensures) (block _ 256 c.args.first c.args.count c.loop-step.step g.met.C.Elem.BitStore.width_law c.requires (rw c.BITS.ensures at c.loop-step-test.true)).here
-
-pub overflow_mul-result : goal.overflow_mul-result
-overflow_mul-result g c =
-    let b = g.C.Elem.BitStore.BITS in
-    let here = block b 256 c.args.first c.args.count c.loop-step.step g.met.C.Elem.BitStore.width_law c.requires (rw c.BITS.ensures at c.loop-step-test.true) in
-    let bits = blocks-bits c.loop-step.step (256 / b) b 256 (block_whole b g.met.C.Elem.BitStore.width_law) in
-    omega arith
 
 pub overflow_add-result : goal.overflow_add-result
 overflow_add-result g c =
@@ -53,14 +29,10 @@ returns-in-Some g c =
     let b = g.C.Elem.BitStore.BITS in
     let inv = c.loop-step.invariant in
     let here = block b 256 c.args.first c.args.count c.loop-step.step g.met.C.Elem.BitStore.width_law c.requires (rw c.BITS.ensures at c.loop-step-test.true) in
-    let few = here.upto.within in
     record {
       value = first-block_has here g.O.BitOrder.at c.args.want inv.none 256 _ (block_whole b g.met.C.Elem.BitStore.width_law) (rw (c.BITS.ensures, inv.reads.numbers) at c.in-Some.ensures.value);
       reads = reads-before inv.reads c.in-Some.ensures.reads (omega arith);
     }
-
-pub loop-step-smaller : goal.loop-step-smaller
-loop-step-smaller g c = omega arith
 
 pub loop-step-preserved : goal.loop-step-preserved
 loop-step-preserved g c =
@@ -71,19 +43,6 @@ loop-step-preserved g c =
       none = first-block_lacks here g.O.BitOrder.at c.args.want inv.none (rw (c.BITS.ensures, inv.reads.numbers) at c.in_default.ensures.value);
       reads = reads-sum inv.reads c.in_default.ensures.reads (omega arith);
     }
-
-pub overflow_mul-passed : goal.overflow_mul-passed
-overflow_mul-passed g c =
-    let parts = parted-blocks _ 256 c.args.first c.args.count g.met.C.Elem.BitStore.width_law c.requires in
-    rw c.BITS.ensures (omega arith)
-
-pub overflow_add-first-2 : goal.overflow_add-first-2
-overflow_add-first-2 g c =
-    let parts = parted-blocks _ 256 c.args.first c.args.count g.met.C.Elem.BitStore.width_law c.requires in
-    rw c.BITS.ensures (omega arith)
-
-pub overflow_sub-count : goal.overflow_sub-count
-overflow_sub-count g c = rw c.BITS.ensures (parted-blocks _ 256 c.args.first c.args.count g.met.C.Elem.BitStore.width_law c.requires).within
 
 pub first_in_rest-requires : goal.first_in_rest-requires
 first_in_rest-requires g c = rw (c.loop-step.invariant.reads.numbers, c.BITS.ensures) (parted-blocks _ 256 c.args.first c.args.count g.met.C.Elem.BitStore.width_law c.requires).rest
@@ -100,13 +59,6 @@ returns-in_err-found g c =
       value = split-lacks parts.split g.O.BitOrder.at c.requires c.args.want front.none rest.value;
       reads = reads-both (reads-exact front.reads) rest.reads (let few = parts.within in omega arith);
     })
-
-pub overflow_mul-result-2 : goal.overflow_mul-result-2
-overflow_mul-result-2 g c =
-    let b = g.C.Elem.BitStore.BITS in
-    let parts = parted-blocks b 256 c.args.first c.args.count g.met.C.Elem.BitStore.width_law c.requires in
-    let bits = blocks-bits (c.args.count / (256 / b)) (256 / b) b 256 (block_whole b g.met.C.Elem.BitStore.width_law) in
-    rw c.BITS.ensures (omega arith)
 
 pub overflow_add-result-2 : goal.overflow_add-result-2
 overflow_add-result-2 g c =

@@ -3,9 +3,8 @@ use Rattle.bitvec_store.specs.WidthLaws.{width_some}
 use Rattle.bitvec_base.specs.Lists.{first_place}
 use Rattle.bitvec_base.specs.PlacesLaws.{first_place-nil}
 use Rattle.bitvec_words.specs.WholeLaws.{list-empty}
-use Rattle.bitvec_words.specs.WordLaws.{width-some, word_whole}
+use Rattle.bitvec_words.specs.WordLaws.{word_whole}
 use Rattle.bitvec_words.proofs.CostLemmas.{reads-before, reads-both, reads-exact, reads-most, reads-sum}
-use Rattle.bitvec_words.proofs.CountLemmas.{words-some}
 use Rattle.bitvec_words.proofs.ScanLemmas.{first_loads-elements}
 use Rattle.bitvec_words.proofs.SplitLemmas.{split-behind, split-few, split-lacks}
 use Rattle.bitvec_words.proofs.WordScanLemmas.{block, blocks-bits, first-block_few, first-block_has, first-block_lacks, parted-blocks}
@@ -16,40 +15,17 @@ returns-then-bits-ge-WORD_BITS-clause-reads g c =
     let scan = c.first_whole.ensures in
     reads-most scan.reads (first_loads-elements _ g.O.BitOrder.at _ c.args.first c.args.count c.args.want _ (width_some _ g.met.C.Elem.BitStore.width_law) c.requires scan.value)
 
-pub nonzero_div-elements : goal.nonzero_div-elements
-nonzero_div-elements g c = width-some _ _ g.met.C.Elem.BitStore.width_law c.BITS-bits.ensures
-
-pub nonzero_div-words : goal.nonzero_div-words
-nonzero_div-words g c = rw c.BITS-bits.ensures (words-some _ g.met.C.Elem.BitStore.width_law (omega arith))
-
 pub loop-step-init : goal.loop-step-init
 loop-step-init g c = record {
   none = sym (ap (λ (l : List Bool). first_place c.args.want l) (list-empty _ _ _ _ (omega arith)) ∙ first_place-nil c.args.want);
   reads = search rules;
 }
 
-pub overflow_mul-step : goal.overflow_mul-step
-overflow_mul-step g c =
-    let here = block _ 64 c.args.first c.args.count c.loop-step.step g.met.C.Elem.BitStore.width_law c.requires (rw c.BITS-bits.ensures at c.loop-step-test.true) in
-    rw c.BITS-bits.ensures (omega arith)
-
-pub overflow_add-first : goal.overflow_add-first
-overflow_add-first g c =
-    let here = block _ 64 c.args.first c.args.count c.loop-step.step g.met.C.Elem.BitStore.width_law c.requires (rw c.BITS-bits.ensures at c.loop-step-test.true) in
-    rw c.BITS-bits.ensures (omega arith)
-
 pub load_elements-word-requires : goal.load_elements-word-requires
 load_elements-word-requires g c = record {
   window = rw (c.loop-step.invariant.reads.numbers, c.BITS-bits.ensures) (block _ 64 c.args.first c.args.count c.loop-step.step g.met.C.Elem.BitStore.width_law c.requires (rw c.BITS-bits.ensures at c.loop-step-test.true)).here;
   narrow = omega arith;
 }
-
-pub overflow_mul-result : goal.overflow_mul-result
-overflow_mul-result g c =
-    let b = g.C.Elem.BitStore.BITS in
-    let here = block b 64 c.args.first c.args.count c.loop-step.step g.met.C.Elem.BitStore.width_law c.requires (rw c.BITS-bits.ensures at c.loop-step-test.true) in
-    let bits = blocks-bits c.loop-step.step (64 / b) b 64 (word_whole b g.met.C.Elem.BitStore.width_law (omega arith)) in
-    omega arith
 
 pub overflow_add-result : goal.overflow_add-result
 overflow_add-result g c =
@@ -64,14 +40,10 @@ returns-in-Some g c =
     let b = g.C.Elem.BitStore.BITS in
     let inv = c.loop-step.invariant in
     let here = block b 64 c.args.first c.args.count c.loop-step.step g.met.C.Elem.BitStore.width_law c.requires (rw c.BITS-bits.ensures at c.loop-step-test.true) in
-    let few = here.upto.within in
     record {
       value = first-block_has here g.O.BitOrder.at c.args.want inv.none 64 _ (word_whole b g.met.C.Elem.BitStore.width_law (omega arith)) (sym c.in-Some.is ∙ c.first_in_whole.ensures ∙ ap (first_place c.args.want) (rw (c.BITS-bits.ensures, inv.reads.numbers) at c.load_elements-word.ensures.value));
       reads = reads-before inv.reads c.load_elements-word.ensures.reads (omega arith);
     }
-
-pub loop-step-smaller : goal.loop-step-smaller
-loop-step-smaller g c = omega arith
 
 pub loop-step-preserved : goal.loop-step-preserved
 loop-step-preserved g c =
@@ -82,19 +54,6 @@ loop-step-preserved g c =
       none = first-block_lacks here g.O.BitOrder.at c.args.want inv.none (sym c.in_default.is ∙ c.first_in_whole.ensures ∙ ap (first_place c.args.want) (rw (c.BITS-bits.ensures, inv.reads.numbers) at c.load_elements-word.ensures.value));
       reads = reads-sum inv.reads c.load_elements-word.ensures.reads (omega arith);
     }
-
-pub overflow_mul-passed : goal.overflow_mul-passed
-overflow_mul-passed g c =
-    let parts = parted-blocks _ 64 c.args.first c.args.count g.met.C.Elem.BitStore.width_law c.requires in
-    rw c.BITS-bits.ensures (omega arith)
-
-pub overflow_add-first-2 : goal.overflow_add-first-2
-overflow_add-first-2 g c =
-    let parts = parted-blocks _ 64 c.args.first c.args.count g.met.C.Elem.BitStore.width_law c.requires in
-    rw c.BITS-bits.ensures (omega arith)
-
-pub overflow_sub-count : goal.overflow_sub-count
-overflow_sub-count g c = rw c.BITS-bits.ensures (parted-blocks _ 64 c.args.first c.args.count g.met.C.Elem.BitStore.width_law c.requires).within
 
 pub first_whole-requires-2 : goal.first_whole-requires-2
 first_whole-requires-2 g c = rw (c.loop-step.invariant.reads.numbers, c.BITS-bits.ensures) (parted-blocks _ 64 c.args.first c.args.count g.met.C.Elem.BitStore.width_law c.requires).rest
@@ -112,13 +71,6 @@ returns-in_err-found g c =
       value = split-lacks parts.split g.O.BitOrder.at c.requires c.args.want front.none rest.value;
       reads = reads-both (reads-exact front.reads) rest.reads (let few = parts.within in omega arith);
     })
-
-pub overflow_mul-result-2 : goal.overflow_mul-result-2
-overflow_mul-result-2 g c =
-    let b = g.C.Elem.BitStore.BITS in
-    let parts = parted-blocks b 64 c.args.first c.args.count g.met.C.Elem.BitStore.width_law c.requires in
-    let bits = blocks-bits (c.args.count / (64 / b)) (64 / b) b 64 (word_whole b g.met.C.Elem.BitStore.width_law (omega arith)) in
-    rw c.BITS-bits.ensures (omega arith)
 
 pub overflow_add-result-2 : goal.overflow_add-result-2
 overflow_add-result-2 g c =

@@ -1,7 +1,6 @@
 use Rattle.std.proofs.Common.{arith, refl, sym}
 use Rattle.bitvec_base.specs.MemoryLaws.{length-element_bits}
 use Rattle.bitvec_words.proofs.ScanLemmas.{first-behind, first-below, first-front, first-lacks}
-use Rattle.bitvec_words.proofs.WordScanLemmas.{width-most}
 use Rattle.bitvec_words.proofs.scanning_words.first_of_two.Goals as goal
 
 pub returns-in-Some : goal.returns-in-Some
@@ -12,9 +11,7 @@ returns-in_err-found g c = rw c.from_residual.ensures (first-lacks c.args.want _
 
 pub overflow_add-result : goal.overflow_add-result
 overflow_add-result g c =
-    let below = first-below g.T.BitStore.BITS g.O.BitOrder.at _ _ c.args.want c.in_ok-found.ensures in
-    let most = width-most _ g.met.T.BitStore.width_law in
-    rw c.BITS.ensures (omega arith)
+    rw c.BITS.ensures (omega (arith, first-below g.T.BitStore.BITS g.O.BitOrder.at _ _ c.args.want c.in_ok-found.ensures))
 
 pub returns : goal.returns
 returns g c = rw c.BITS.ensures (first-behind c.args.want _ _ _ _ _ c.in_default.ensures c.in_ok-found.ensures (sym (length-element_bits _ g.O.BitOrder.at _)) refl)

@@ -1,7 +1,8 @@
-use Rattle.std.proofs.Common.{arith, refl}
+use Rattle.bitvec_words.specs.TouchedLaws.{touched-empty}
+use Rattle.std.proofs.Common.{arith, refl, ℕ, ◌+◌, ◌∙◌, ap}
 use Rattle.bitvec_store.specs.WidthLaws.{width_some}
 use Rattle.bitvec_words.specs.WordLaws.{width-some}
-use Rattle.bitvec_words.proofs.SplitLemmas.{head-part, head-split, head-within}
+use Rattle.bitvec_words.proofs.SplitLemmas.{head-part, head-split, head-within, head-touched}
 use Rattle.bitvec_words.proofs.split.split_head.Goals as goal
 
 pub first_part-head-requires : goal.first_part-head-requires
@@ -10,7 +11,6 @@ first_part-head-requires g c = record { bits = width-some _ _ g.met.T.BitStore.w
 pub len-requires : goal.len-requires
 len-requires g c =
     let part = head-part _ c.args.window (width_some _ g.met.T.BitStore.width_law) c.requires.some in
-    let some = part.some in
     rw (c.first_part-head.ensures, c.BITS.ensures) (omega arith)
 
 pub after-requires : goal.after-requires
@@ -23,4 +23,4 @@ pub returns : goal.returns
 returns g c =
     let some = width_some _ g.met.T.BitStore.width_law in
     rw (c.after.ensures, c.len.ensures, c.first_part-head.ensures, c.BITS.ensures)
-    (record { split = head-split _ c.args.window some c.requires.some; part = head-part _ c.args.window some c.requires.some; is_first = refl; is_behind = refl })
+    (record { split = head-split _ c.args.window some c.requires.some; one = λ none. head-touched _ c.args.window some c.requires.some ∙ ap (λ (n : ℕ). 1 + n) (touched-empty _ _ _ none); touched = head-touched _ c.args.window some c.requires.some; part = head-part _ c.args.window some c.requires.some; is_first = refl; is_behind = refl })

@@ -2,27 +2,9 @@ use Rattle.std.proofs.Common.{◌≡◌, ◌/◌, arith, ap, sym, ◌∙◌}
 use Rattle.bitvec_base.specs.PartLaws.{element-none}
 use Rattle.bitvec_words.specs.ShortWindow.{padded}
 use Rattle.bitvec_words.specs.MovedLaws.{padded-none}
-use Rattle.bitvec_words.specs.WordLaws.{list-no_element, width-some, word-place}
+use Rattle.bitvec_words.specs.WordLaws.{list-no_element}
 use Rattle.bitvec_words.proofs.OrderedLemmas.{word-all, word-next}
 use Rattle.bitvec_words.proofs.word_elements.ordered.Goals as goal
-
-pub nonzero_div-step-end : goal.nonzero_div-step-end
-nonzero_div-step-end g c = let some = width-some _ _ g.met.T.BitStore.width_law c.BITS-bits.ensures in omega arith
-
-pub overflow_mul-step : goal.overflow_mul-step
-overflow_mul-step g c =
-    let place = word-place _ _ _ g.met.T.BitStore.width_law c.BITS-bits.ensures c.requires c.loop-step-test.true in
-    omega arith
-
-pub moved-element-requires-clause-source : goal.moved-element-requires-clause-source
-moved-element-requires-clause-source g c =
-    let place = word-place _ _ _ g.met.T.BitStore.width_law c.BITS-bits.ensures c.requires c.loop-step-test.true in
-    omega arith
-
-pub moved-ordered-requires-clause-target : goal.moved-ordered-requires-clause-target
-moved-ordered-requires-clause-target g c =
-    let place = word-place _ _ _ g.met.T.BitStore.width_law c.BITS-bits.ensures c.requires c.loop-step-test.true in
-    omega arith
 
 pub loop-step-init : goal.loop-step-init
 loop-step-init g c = record {

@@ -30,9 +30,6 @@ load-element-requires g c =
 
 pub moved-word-requires : goal.moved-word-requires
 moved-word-requires g c =
-    let walk = c.loop-rest.invariant.walk in
-    let part = c.split_head.ensures.part in
-    let split = c.split_head.ensures.split in
     rw c.len.ensures (record { source = omega arith; target = omega arith })
 
 pub loop-rest-preserved : goal.loop-rest-preserved
@@ -45,7 +42,6 @@ loop-rest-preserved g c =
     let part = first_part_of g.C.Elem.BitStore.BITS rest in
     let len = first-len g.C.Elem.BitStore.BITS rest some more in
     let moved = rw (c.len.ensures, head.is_first) at c.moved-word.ensures in
-    let start = inv.walk.start in
     let loaded = rw (head.is_first, inv.reads.numbers) at c.load-element.ensures.value in
     let each = touched-next g.C.Elem.BitStore.BITS c.args.window rest (part.to - part.from) some more (omega arith) (omega arith) inv.walk in
     rw (head.is_behind, head.is_first)
@@ -57,7 +53,6 @@ loop-rest-preserved g c =
 
 pub returns : goal.returns
 returns g c =
-    let walk = c.loop-rest.invariant.walk in
     let all : c.loop-rest.rest.start - c.args.window.start ≡ c.args.window.len = omega arith in
     let inv = rw all at c.loop-rest.invariant in
     record { value = inv.value; reads = inv.reads }

@@ -10,8 +10,6 @@ returns-then-len-eq0 g c =
 
 pub from_u128-requires : goal.from_u128-requires
 from_u128-requires g c =
-    let source = c.requires.source in
-    let target = c.requires.target in
     rw (c.to_u128.ensures.number, c.and-word.ensures, c.shr.ensures, c.shr-mask.ensures, c.ALL.ensures, g.met.T.BitStore.all_law, c.BITS.ensures)
     (cut-fits g.T.BitStore.BITS g.U.BitStore.BITS _ _ c.args.len (omega arith) (omega arith))
 
@@ -22,15 +20,6 @@ returns g c =
     rw (c.shl.ensures, c.from_u128.ensures, c.to_u128.ensures.number, c.and-word.ensures, c.shr.ensures, c.shr-mask.ensures, c.ALL.ensures, g.met.T.BitStore.all_law, c.BITS.ensures, c.lowest-down.ensures, c.lowest-up.ensures)
     (ap (element_bits g.U.BitStore.BITS g.O.BitOrder.at) (cut-masked g.T.BitStore.BITS g.U.BitStore.BITS _ _ c.args.len _ (omega arith) (lowest_bit-fits _ _ _ _ target))
     ∙ word-element _ _ g.met.O.WordOrder.ends_law _ _ _ _ _ _ source target)
-
-pub lowest-down-requires : goal.lowest-down-requires
-lowest-down-requires g c = c.requires.source
-
-pub lowest-up-requires : goal.lowest-up-requires
-lowest-up-requires g c = c.requires.target
-
-pub overflow_sub-BITS : goal.overflow_sub-BITS
-overflow_sub-BITS g c = let source = c.requires.source in omega arith
 
 pub shr-mask-requires : goal.shr-mask-requires
 shr-mask-requires g c = let source = c.requires.source in omega arith

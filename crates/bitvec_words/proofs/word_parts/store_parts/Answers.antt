@@ -3,7 +3,7 @@ use Rattle.bitvec_base.specs.Memory.{element_bits}
 use Rattle.bitvec_base.specs.Parts.{first_part_of}
 use Rattle.bitvec_base.specs.WritesLaws.{HasWindow-kept, Writes-is}
 use Rattle.bitvec_store.specs.WidthLaws.{width_some}
-use Rattle.bitvec_cells.specs.WalkLaws.{Walked-start, Walked-next, Writes-none_passed, edge_loads-next, first-len, touched-next, touched-none}
+use Rattle.bitvec_cells.specs.WalkLaws.{Walked-start, Walked-next, Writes-none_passed, edge_loads-next, first-len, touched-next}
 use Rattle.bitvec_words.specs.PartWalkLaws.{HasWindow-rest, Writes-next_field}
 use Rattle.bitvec_words.specs.WholeLaws.{window-end}
 use Rattle.bitvec_words.proofs.SplitLemmas.{HasPart-is, HasWindow-front}
@@ -12,7 +12,6 @@ use Rattle.bitvec_words.proofs.word_parts.store_parts.Goals as goal
 pub loop-rest-init : goal.loop-rest-init
 loop-rest-init g c =
     let none : c.args.window.start - c.args.window.start ≡ 0 = omega arith in
-    let empty = touched-none g.C.Elem.BitStore.BITS c.args.window.start in
     record {
       walk = Walked-start _ _;
       writes = Writes-is _ _ _ _ _ _ _ (Writes-none_passed _ _ _ _ c.requires.window) (ap (λ (n : ℕ). take n (element_bits 64 g.O.BitOrder.at c.args.word)) (sym none));
@@ -24,9 +23,6 @@ split_head-requires g c = record { some = c.loop-rest-test.true; end = window-en
 
 pub moved-element-requires : goal.moved-element-requires
 moved-element-requires g c =
-    let walk = c.loop-rest.invariant.walk in
-    let part = c.split_head.ensures.part in
-    let split = c.split_head.ensures.split in
     rw c.len.ensures (record { source = omega arith; target = omega arith })
 
 pub store_part-requires : goal.store_part-requires
@@ -48,7 +44,6 @@ loop-rest-preserved g c =
     let each = touched-next b window rest (part.to - part.from) some more (omega arith) (omega arith) inv.walk in
     let moved = rw (c.len.ensures, head.is_first) at c.moved-element.ensures in
     let ensures = rw head.is_first at c.store_part.ensures in
-    let start = inv.walk.start in
     rw (head.is_behind, head.is_first)
     (record {
       walk = Walked-next _ _ _ _ some more refl inv.walk;
@@ -58,6 +53,5 @@ loop-rest-preserved g c =
 
 pub returns-clause-writes : goal.returns-clause-writes
 returns-clause-writes g c =
-    let walk = c.loop-rest.invariant.walk in
     let all : c.loop-rest.rest.start - c.args.window.start ≡ c.args.window.len = omega arith in
     rw all at c.loop-rest.invariant.writes

@@ -25,5 +25,4 @@ pub returns-clause-reads : goal.returns-clause-reads
 returns-clause-reads g c =
     let b = g.D.Elem.BitStore.BITS in
     let same = index-same _ _ c.requires.phases in
-    let bound = c.requires.bound in
     rw (touched-one b c.args.window.start c.args.window.len (width_some b g.met.D.Elem.BitStore.width_law) c.requires.some (omega arith)) (search rules)

@@ -9,5 +9,4 @@ returns-clause-value g c =
     let b = g.D.Elem.BitStore.BITS in
     let front = element_bits b g.O.BitOrder.at (g.D.Elem.BitStore.value c.load_element_after-front.result.0) in
     let long = length-element_bits b g.O.BitOrder.at (g.D.Elem.BitStore.value c.load_element_after-front.result.0) in
-    let bound = c.requires.bound in
     rw c.toward_end.ensures (range-shifted front c.args.index c.args.window.len (c.args.index + c.args.window.len) refl (omega arith) ∙ c.load_element_after-front.ensures.value)

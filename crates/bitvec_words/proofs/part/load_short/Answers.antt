@@ -2,7 +2,7 @@ use Rattle.std.proofs.Common.{ℕ, ◌∙◌, ap, rules, sym, take}
 use Rattle.bitvec_base.specs.Memory.{element_bits}
 use Rattle.bitvec_words.specs.WholeLaws.{list-empty}
 use Rattle.bitvec_cells.specs.WalkLaws.{touched-none}
-use Rattle.bitvec_move.proofs.moving.load_edge.Goals as goal
+use Rattle.bitvec_words.proofs.part.load_short.Goals as goal
 
 pub returns-then-window-eq0-clause-value : goal.returns-then-window-eq0-clause-value
 returns-then-window-eq0-clause-value g c =

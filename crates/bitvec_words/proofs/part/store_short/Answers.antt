@@ -3,17 +3,16 @@ use Rattle.bitvec_base.specs.declared.part.Part.{Part}
 use Rattle.bitvec_base.specs.Memory.{element_bits}
 use Rattle.bitvec_base.specs.Parts.{first_part_of}
 use Rattle.bitvec_base.specs.WritesLaws.{Writes-empty, Writes-is}
-use Rattle.bitvec_words.specs.MovedPlaceLaws.{head-part}
 use Rattle.bitvec_store.specs.WidthLaws.{width_some}
-use Rattle.bitvec_words.specs.FillingLaws.{fill_loads-some}
-use Rattle.bitvec_words.specs.TouchedLaws.{part_loads-most, touched-first}
-use Rattle.bitvec_engine.proofs.FewLemmas.{stored-one, stored-two, touched-short}
-use Rattle.bitvec_engine.proofs.storing.store_short.Goals as goal
+use Rattle.bitvec_cells.specs.WalkLaws.{first-len}
+use Rattle.bitvec_words.specs.TouchedLaws.{part_loads-most, touched-first, touched-two}
+use Rattle.bitvec_words.proofs.ShortLemmas.{stored-one, stored-two}
+use Rattle.bitvec_words.proofs.part.store_short.Goals as goal
 
 pub returns-then-window-eq0-clause-writes : goal.returns-then-window-eq0-clause-writes
 returns-then-window-eq0-clause-writes g c =
     let none = c.if-window-eq0.true in
-    Writes-is _ _ _ _ _ _ _ (Writes-empty _ g.W.BitOrder.at _ _ c.args.window c.requires.window none refl) (ap (λ (n : ℕ). take n (element_bits 64 g.W.BitOrder.at c.args.word)) (sym none))
+    Writes-is _ _ _ _ _ _ _ (Writes-empty _ g.O.BitOrder.at _ _ c.args.window c.requires.window none refl) (ap (λ (n : ℕ). take n (element_bits g.C.Elem.BitStore.BITS g.O.BitOrder.at (g.C.Elem.BitStore.value c.args.element))) (sym none))
 
 pub returns-then-count-window-clause-writes : goal.returns-then-count-window-clause-writes
 returns-then-count-window-clause-writes g c =
@@ -21,10 +20,9 @@ returns-then-count-window-clause-writes g c =
     let some = width_some _ g.met.C.Elem.BitStore.width_law in
     let part : c.first_part-head.result ≡ first_part_of g.C.Elem.BitStore.BITS window = rw c.BITS.ensures at c.first_part-head.ensures in
     let step = c.len-count.ensures ∙ ap (λ (p : Part). p.to - p.from) part in
-    let first = rw part at c.moved-first.ensures in
-    let before = rw part at c.store_part.ensures.writes in
-    let after = rw part at c.store_part-then-count-window.ensures.writes in
-    stored-two _ g.W.BitOrder.at _ _ window _ _ _ some (omega arith) c.requires.bound c.requires.short step c.requires.window first before _ _ c.if-count-window.true c.moved-second.ensures after
+    let before = rw (c.toward_end.ensures, part) at c.store_part.ensures.writes in
+    let after = rw (c.toward_start.ensures, part) at c.store_part-then-count-window.ensures.writes in
+    stored-two _ _ _ _ window _ _ some (omega arith) c.requires.bound step c.requires.window before _ c.if-count-window.true after
 
 pub returns-else-count-window-clause-writes : goal.returns-else-count-window-clause-writes
 returns-else-count-window-clause-writes g c =
@@ -32,9 +30,8 @@ returns-else-count-window-clause-writes g c =
     let some = width_some _ g.met.C.Elem.BitStore.width_law in
     let part : c.first_part-head.result ≡ first_part_of g.C.Elem.BitStore.BITS window = rw c.BITS.ensures at c.first_part-head.ensures in
     let step = c.len-count.ensures ∙ ap (λ (p : Part). p.to - p.from) part in
-    let first = rw part at c.moved-first.ensures in
-    let before = rw part at c.store_part.ensures.writes in
-    stored-one _ g.W.BitOrder.at _ _ window _ _ _ some (omega arith) c.requires.bound c.requires.short step c.requires.window first before (omega arith)
+    let before = rw (c.toward_end.ensures, part) at c.store_part.ensures.writes in
+    stored-one _ _ _ _ window _ _ some (omega arith) c.requires.bound step c.requires.window before (omega arith)
 
 pub returns-then-count-window-clause-cost : goal.returns-then-count-window-clause-cost
 returns-then-count-window-clause-cost g c =
@@ -43,12 +40,14 @@ returns-then-count-window-clause-cost g c =
     let some = width_some _ g.met.C.Elem.BitStore.width_law in
     let part : c.first_part-head.result ≡ first_part_of b window = rw c.BITS.ensures at c.first_part-head.ensures in
     let step = c.len-count.ensures ∙ ap (λ (p : Part). p.to - p.from) part in
-    let all = touched-short b _ window some (omega arith) c.requires.short step c.if-count-window.true in
+    let len = first-len b window some (omega arith) in
+    let left = c.if-count-window.true in
+    let all = touched-two b window.start window.len some c.requires.bound (omega arith) in
     let first = part_loads-most b c.first_part-head.result in
     let second = part_loads-most b (record { element = c.first_part-head.result.element + 1; from = 0; to = window.len - c.len-count.result }) in
     let before = c.store_part.ensures.cost in
     let after = c.store_part-then-count-window.ensures.cost in
-    rw (all, fill_loads-some window.len c.if-window-eq0.false) (record { borrow = after.borrow ∙ before.borrow; loads = omega arith; stores = omega arith })
+    rw all (record { borrow = after.borrow ∙ before.borrow; loads = omega arith; stores = omega arith })
 
 pub returns-else-count-window-clause-cost : goal.returns-else-count-window-clause-cost
 returns-else-count-window-clause-cost g c =
@@ -57,7 +56,4 @@ returns-else-count-window-clause-cost g c =
     let all = touched-first b window.start window.len (omega arith) in
     let first = part_loads-most b c.first_part-head.result in
     let before = c.store_part.ensures.cost in
-    rw (fill_loads-some window.len c.if-window-eq0.false) (record { borrow = before.borrow; loads = omega arith; stores = omega arith })
-
-pub store_part-requires : goal.store_part-requires
-store_part-requires g c = head-part _ _ _ c.args.window _ g.met.C.Elem.BitStore.width_law c.BITS.ensures c.first_part-head.ensures (omega arith) c.requires.window
+    record { borrow = before.borrow; loads = omega arith; stores = omega arith }
