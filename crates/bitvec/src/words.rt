@@ -3,6 +3,6 @@ pub use bitvec_combine::{combine, copy, equal};
 pub use bitvec_engine::words_reverse as reverse;
 pub use bitvec_move::{copy_within, swap};
 pub use bitvec_words::{
-    WORD_BITS, joined, load_element, load_element_after, load_parts, merged, moved, reversed,
-    store_part, store_parts, toward_end, toward_start,
+    WORD_BITS, joined, load_element, load_element_after, load_parts, load_short, merged, moved,
+    reversed, store_part, store_parts, store_short, toward_end, toward_start,
 };

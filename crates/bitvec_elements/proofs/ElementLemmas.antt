@@ -1,10 +1,10 @@
 -- Elements of a window copied to another at once.
 use borrow.Rule.Slice.PartMut.{put_mid}
 use Rattle.std.specs.Prelude.{◌≡◌, ◌≢◌, ℕ, ◌+◌, ◌-◌, ◌*◌, ◌/◌, ◌%◌, ◌<◌, ◌≤◌, Bool, List, length, map, slice_index, slice_index_or, slice_range}
-use Rattle.std.proofs.Common.{arith, refl, sym, ap, ◌∙◌}
-use Rattle.std.proofs.Math.Nat.{add-mod-mod, add-mul, mod-add-mod}
+use Rattle.std.proofs.Common.{arith, sym, ap, ◌∙◌}
+use Rattle.std.proofs.Math.Nat.{add-mul}
 use Rattle.std.proofs.lemmas.List.{get_or-map, length-map}
-use Rattle.std.proofs.lemmas.Nat.{div-add-mod', mod-mul-add, mod_below}
+use Rattle.std.proofs.lemmas.Nat.{div-add-mod'}
 use Rattle.bitvec_base.specs.declared.part.Part.{Part}
 use Rattle.bitvec_base.specs.declared.window.Window.{Window}
 use Rattle.bitvec_base.specs.Memory.{HasWindow, Writes, element_bits, list_in, memory_bits}
@@ -12,17 +12,16 @@ use Rattle.bitvec_base.specs.MemoryLaws.{memory-range}
 use Rattle.bitvec_base.specs.Parts.{first_part_of, part_window}
 use Rattle.bitvec_base.specs.SliceLaws.{range-map, range-same}
 use Rattle.bitvec_base.specs.Spans.{HasSpan}
-use Rattle.bitvec_base.specs.Window.{window_of, window_range, write_at}
+use Rattle.bitvec_base.specs.Window.{window_of, write_at}
 use Rattle.bitvec_base.specs.WriteLaws.{length-slice_range, length-write_at}
 use Rattle.bitvec_base.specs.WritesLaws.{Writes-is, length-list}
 use Rattle.bitvec_words.specs.Elements.{elements_window, elements_window_from}
 use Rattle.bitvec_words.specs.FieldLaws.{Writes-none, element_of, list-part}
-use Rattle.bitvec_words.specs.WholeLaws.{HasWindow-part, Writes-same, behind-mod, elements-inside, list-same}
+use Rattle.bitvec_words.specs.WholeLaws.{HasWindow-part, Writes-same, elements-inside, list-same}
 use Rattle.bitvec_words.specs.WrittenLaws.{memory-write_at}
 use Rattle.bitvec_cells.specs.PutLaws.{part-numbers}
 use Rattle.bitvec_words.specs.WordLaws.{word_whole}
 use Rattle.bitvec_store.specs.Width.{IsWidth}
-use Rattle.bitvec_elements.proofs.StoreLemmas.{range-inside, range-kept}
 
 -- whole elements from a window's first bit on lie in the memory
 whole-inside : (b : ℕ) (xs : List ℕ) (window : Window) (n : ℕ) → 0 < b → HasWindow b xs window → window.start % b ≡ 0 → n % b ≡ 0 → n ≤ window.len → window.start / b + n / b ≤ length xs
@@ -72,51 +71,6 @@ elements-copied value b w at left right new to from some same span edge right_ed
     let numbers = part-numbers value (to.start / b) (to.start / b + to.len / b - to.start / b) left new (omega arith) in
     let part = ap (map value) is ∙ ap (λ (n : ℕ). map value (slice_range right (from.start / n) (from.start / n + to.len / n))) same ∙ range-map value right (from.start / b) (from.start / b + to.len / b) in
     rw (numbers, part) wrote)
-
--- ---- windows cut at edges of elements
-
--- the first edge of an element in n bits from the place s on, and the last one
-pub record EdgesCut (b s n f l : ℕ) : Type 0 where
-  pub head : (s + 0) % b + (f - 0) ≤ b
-  pub order : f ≤ l
-  pub bound : l ≤ n
-  pub edge : (s + f) % b ≡ 0
-  pub whole : (l - f) % b ≡ 0
-  pub end : (s + l) % b ≡ 0
-  pub tail : n - l ≤ b
-
-pub edges-cut : (b w s n : ℕ) → 0 < b → w ≡ b → b ≤ n → EdgesCut b s n ((w - s % w) % w) (n - (n - (w - s % w) % w) % w)
-edges-cut b w s n some same long =
-    let f : ℕ = (b - s % b) % b in
-    let none : s + 0 ≡ s = omega arith in
-    let below = mod_below s b some in
-    let less = mod_below (b - s % b) b some in
-    let part = div-add-mod' (b - s % b) b in
-    let rest = mod_below (n - f) b some in
-    let parts = div-add-mod' (n - f) b in
-    let whole : n - (n - f) % b - f ≡ (n - f) / b * b + 0 = omega arith in
-    let end : s + (n - (n - f) % b) ≡ s + f + (n - f) / b * b = omega arith in
-    let all : s % b + (b - s % b) ≡ 1 * b + 0 = omega arith in
-    let edge = add-mod-mod s (b - s % b) b ∙ sym (mod-add-mod s b (b - s % b)) ∙ ap (λ (m : ℕ). m % b) all ∙ mod-mul-add 1 b 0 some in
-    rw same (record {
-      head = rw none (omega arith);
-      order = omega arith;
-      bound = omega arith;
-      edge = edge;
-      whole = ap (λ (m : ℕ). m % b) whole ∙ mod-mul-add ((n - f) / b) b 0 some;
-      end = ap (λ (m : ℕ). m % b) end ∙ behind-mod b (s + f) ((n - f) / b) some ∙ edge;
-      tail = omega arith;
-    })
-
--- places that lie alike in elements, n bits on
-pub phase-on : (b s r n : ℕ) → s % b ≡ r % b → (s + n) % b ≡ (r + n) % b
-phase-on b s r n phases = sym (mod-add-mod s b n) ∙ ap (λ (m : ℕ). (m + n) % b) phases ∙ mod-add-mod r b n
-
--- stretches of two windows, where the first memory may have changed
-pub span-range : (b : ℕ) (xs mid ys : List ℕ) (to from part source : Window) (f l : ℕ) → HasSpan b xs ys to from → length mid ≡ length xs → part ≡ window_range to f l → source ≡ window_range from f l → f ≤ l → l ≤ to.len → HasSpan b mid ys part source
-span-range b xs mid ys to from part source f l span kept is other order bound =
-    let lengths = span.lengths in
-    rw (is, other) (record { window = range-kept b xs mid to _ f l span.window kept refl order bound; beside = range-inside b ys from _ f l span.beside refl order (omega arith); lengths = refl })
 
 -- ---- the bits of one element
 

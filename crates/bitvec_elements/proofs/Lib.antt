@@ -1,6 +1,6 @@
-mod ConvertedLemmas
 mod DifferenceLemmas
 mod ElementLemmas
 mod FromLemmas
 mod RecutLemmas
+pub mod Directions
 pub mod StoreLemmas

@@ -17,7 +17,7 @@ use Rattle.bitvec_base.specs.WritesLaws.{length-list, list-range}
 use Rattle.bitvec_store.specs.Width.{IsWidth}
 use Rattle.bitvec_store.specs.WidthLaws.{at_each_width, width_some}
 use Rattle.bitvec_words.specs.WholeLaws.{window-end}
-use Rattle.bitvec_elements.proofs.StoreLemmas.{range-kept, stretch-next, stretch-old, until}
+use Rattle.bitvec_elements.proofs.StoreLemmas.{stretch-next, stretch-old, until}
 
 -- ---- whole words
 
@@ -49,9 +49,6 @@ module _ (b w k : ℕ) (window : Window) (width : IsWidth b) (is : w ≡ b) (nar
       let at_edge : window.start % b ≡ 0 = at_each_width (λ n. n ≤ 64 → window.start % n ≡ 0) (λ _. omega arith) (λ _. omega arith) (λ _. omega arith) (λ _. edge) (λ wide. absurd (omega arith)) b width narrow in
       let start : (window.start / b + k * (64 / b)) * b ≡ window.start + k * 64 = omega (arith, place) in
       rw is (at_place _ _ start (word_whole b width narrow))
-
-  pub word-inside : (xs ys : List ℕ) (part : Window) → HasWindow b xs window → length ys ≡ length xs → k < window.len / 64 → part ≡ window_range window (k * 64) (k * 64 + 64) → HasWindow b ys part
-  word-inside xs ys part has long below at = range-kept b xs ys window part (k * 64) (k * 64 + 64) has long at (omega arith) (omega arith)
 
 -- a word more of another memory
 pub word-recut : (b d w e : ℕ) (at way : ℕ → ℕ → ℕ) (old mid new ys : List ℕ) (to from : Window) (k next word made : ℕ) → IsWidth b → IsWidth d → w ≡ b → e ≡ d → b ≤ 64 → d ≤ 64 → HasPair b old to d ys from

@@ -25,15 +25,6 @@ Writes-agrees b at other old new window list some agrees writes = record {
   elements = writes.elements;
 }
 
--- a list of a memory under such an order, written elsewhere
-pub List-agrees : (b : ℕ) (at other : ℕ → ℕ → ℕ) (xs : List ℕ) (window : Window) (d : ℕ) (way : ℕ → ℕ → ℕ) (old new : List ℕ) (to : Window) → 0 < b → Agrees b at other → Writes d way old new to (list_in b other xs window) → Writes d way old new to (list_in b at xs window)
-List-agrees b at other xs window d way old new to some agrees writes = Writes-is d way old new to _ _ writes (sym (list-agrees b at other xs window some agrees))
-
--- both
-pub Copied-agrees : (b : ℕ) (at other : ℕ → ℕ → ℕ) (old new xs : List ℕ) (window right : Window) → 0 < b → Agrees b at other → Writes b other old new window (list_in b other xs right) → Writes b at old new window (list_in b at xs right)
-Copied-agrees b at other old new xs window right some agrees writes =
-    List-agrees b at other xs right b at old new window some agrees (Writes-agrees b at other old new window _ some agrees writes)
-
 pub Edits-agrees : (b : ℕ) (at other : ℕ → ℕ → ℕ) (old new : List ℕ) (window : Window) (edit : List Bool → List Bool) → 0 < b → Agrees b at other → Edits b other old new window edit → Edits b at old new window edit
 Edits-agrees b at other old new window edit some agrees writes =
     Writes-is b at old new window _ _ (Writes-agrees b at other old new window _ some agrees writes) (ap edit (sym (list-agrees b at other old window some agrees)))
@@ -113,3 +104,5 @@ pub stretch-stored : (b : ℕ) (at : ℕ → ℕ → ℕ) (old mid now new : Lis
     → Writes b at old mid (until window from) (take from list) → Writes b at now new part (take part.len made) → Writes b at old new (until window to) (take to list)
 stretch-stored b at old mid now new window part list made from to has order bound long is same fits before after =
     stretch-next b at old mid new window list (take (to - from) made) from to has order bound long fits before (rw (is, same) at after)
+
+pub ruleset ranged = (range-inside, range-kept)

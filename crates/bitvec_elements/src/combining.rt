@@ -1,4 +1,6 @@
 //! Each bit of a window of a slice combined with the bit at its index in another window.
+#![tactic(auto, using(crate::proofs::Directions::by_direction, crate::proofs::StoreLemmas::ranged))]
+
 ghost use Rattle.std.specs.Prelude.{◌≤◌, map};
 ghost use Rattle.bitvec_base.specs.Lists.{combined};
 ghost use Rattle.bitvec_base.specs.Memory.{HasWindow, Writes, list_in};

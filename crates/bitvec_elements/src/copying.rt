@@ -1,4 +1,6 @@
 //! Bits copied from a window of one slice of elements to a window of another.
+#![tactic(auto, using(crate::proofs::Directions::by_direction, crate::proofs::StoreLemmas::ranged))]
+
 ghost use Rattle.std.specs.Prelude.{◌≡◌, ◌≤◌, map};
 ghost use Rattle.bitvec_engine.specs.Pairs.{HasPair};
 ghost use Rattle.bitvec_base.specs.Memory.{HasWindow, Writes, list_in};
@@ -13,7 +15,7 @@ use bitvec_base::{BitOrder, Window};
 use bitvec_cells::{Exclusive, Shared};
 use bitvec_engine::{SliceOrder, bits_copy, direction_of, store_few};
 use bitvec_store::BitStore;
-use bitvec_words::{WORD_BITS, WordOrder};
+use bitvec_words::{WORD_BITS, WordOrder, load_short, store_short};
 
 /// Copies the bits of the right window, which may have elements of any type and order, to the left
 /// one. Condition: each memory has at most `MAX_BITS` bits, each window lies in its memory, and
@@ -131,7 +133,13 @@ fn copy_few<W: WordOrder, T: BitStore>(left: &mut [T], to: Window, right: &[T], 
     ensures writes { Writes T.BITS W.at (map T.value left.old) (map T.value left.new) to
         (list_in T.BITS W.at (map T.value right.now) from) }
 {
-    let word = few_word::<W, T>(right, from);
     let mut cells = Exclusive::new(left);
+    if to.len <= T::BITS as usize {
+        let mut source = Shared::new(right);
+        let element = load_short::<W, Shared<T>>(&mut source, from);
+        store_short::<W, Exclusive<T>>(&mut cells, to, element);
+        return;
+    }
+    let word = few_word::<W, T>(right, from);
     store_few::<W, Exclusive<T>>(&mut cells, to, word);
 }

@@ -1,4 +1,6 @@
 //! How many of their first bits two windows of slices have in common.
+#![tactic(auto, using(crate::proofs::Directions::by_direction, crate::proofs::StoreLemmas::ranged))]
+
 ghost use Rattle.std.specs.Prelude.{◌≤◌, map};
 ghost use Rattle.bitvec_base.specs.Memory.{HasWindow, list_in};
 ghost use Rattle.bitvec_elements.specs.Difference.{DiffersFrom};

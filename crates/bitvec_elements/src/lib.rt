@@ -3,6 +3,7 @@
 
 /// Under an order that runs from one end of an element to the other, returns what a function gives under `Lsb0` or
 /// `Msb0`, which has the same bits at each index; under other orders it does nothing. The `_` stands for that order.
+#[macro_export]
 macro_rules! return_by_direction {
     ($order:ty, $element:ty => $function:ident::<_ $(, $kind:ty)*>($($argument:expr),* $(,)?)) => {
         match bitvec_engine::direction_of::<$order, $element>() {

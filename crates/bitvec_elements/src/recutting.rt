@@ -1,4 +1,6 @@
 //! Bits of a slice as those of elements of another type and order: copied by whole words, and held in blocks.
+#![tactic(auto, using(crate::proofs::Directions::by_direction, crate::proofs::StoreLemmas::ranged))]
+
 ghost use Rattle.std.specs.Prelude.{◌≡◌, ◌+◌, ◌-◌, ◌*◌, ◌%◌, ◌<◌, ◌≤◌, length, map};
 ghost use Rattle.bitvec_engine.specs.Pairs.{HasPair};
 ghost use Rattle.bitvec_base.specs.Memory.{HasWindow, Writes, list_in};

@@ -12,8 +12,7 @@ use bitvec_cells::{CellsRead, Shared};
 use bitvec_engine::Direction;
 use bitvec_store::BitStore;
 use bitvec_words::{
-    WORD_BITS, WordOrder, gathered, joined, load_element, load_elements, load_parts, moved,
-    reversed,
+    WORD_BITS, WordOrder, gathered, joined, load_elements, load_parts, load_short, moved, reversed,
 };
 
 /// The 64 bits of a window from an index on as a word, with zeros past the window's end. Conditions:
@@ -38,6 +37,7 @@ pub fn word_from<W: WordOrder, O: BitOrder, T: BitStore>(
 
 /// The bits of a window as the first bits of a word; the others are 0. Conditions: the window has at
 /// most 64 bits and lies in a memory of at most `MAX_BITS` bits, and the order runs as said.
+#[tactic(auto, using(crate::proofs::Directions::by_direction))]
 #[inline(always)]
 pub(crate) fn window_word<W: WordOrder, O: BitOrder, T: BitStore>(
     elements: &[T],
@@ -121,11 +121,11 @@ pub fn few_word<W: WordOrder, T: BitStore>(elements: &[T], window: Window) -> u6
     ensures { element_bits 64 W.at result
         ≡ padded 64 (list_in T.BITS W.at (map T.value elements.now) window) }
 {
-    if window.len == 0 || window.len > T::BITS as usize {
+    if window.len > T::BITS as usize {
         return run_word::<W, T>(elements, window);
     }
     let mut cells = Shared::new(elements);
-    let (front, _) = load_element::<W, Shared<T>>(&mut cells, window);
+    let front = load_short::<W, Shared<T>>(&mut cells, window);
     moved::<W, T, u64>(front, 0, window.len, 0)
 }
 

@@ -10,8 +10,7 @@ use Rattle.std.proofs.lemmas.List.Edits.{length-insert, length-remove}
 use Rattle.std.proofs.lemmas.Slice.{between_from_start}
 use Rattle.bitvec_base.specs.Lists.{copied_within}
 use Rattle.bitvec_base.specs.Memory.{memory_bits}
-use Rattle.bitvec_base.specs.MemoryLaws.{length-memory_bits, memory-range}
-use Rattle.bitvec_base.specs.SliceLaws.{range-all}
+use Rattle.bitvec_base.specs.MemoryLaws.{length-memory_bits, memory-append}
 use Rattle.bitvec_base.specs.Window.{write_at}
 use Rattle.bitvec_base.specs.WriteLaws.{get-slice_range, get-write_at_above, get-write_at_below, get-write_at_inside, length-slice_range, length-write_at}
 use Rattle.bitvec_in_place.specs.Fronts.{front_bits}
@@ -157,27 +156,6 @@ ranges-joined list a m e low high =
     ap (λ (k : ℕ). take k (drop a list)) long
     ∙ take-add (m - a) (e - m) (drop a list)
     ∙ ap (λ (l : List _). take (m - a) (drop a list) ++ take (e - m) l) (drop-drop (m - a) a list ∙ ap (λ (k : ℕ). drop k list) there)
-
-range-rest : {X : Type 0} (xs ys : List X) → slice_range (xs ++ ys) (length xs) (length xs + length ys) ≡ ys
-range-rest xs ys = same_lists _ _ (search (rules, places)) (λ k d h. grind (arith, places))
-
-pub memory-append : (b : ℕ) (at : ℕ → ℕ → ℕ) (xs ys : List ℕ) → 0 < b → memory_bits b at (xs ++ ys) ≡ memory_bits b at xs ++ memory_bits b at ys
-memory-append b at xs ys some =
-    let all : List ℕ = xs ++ ys in
-    let many : length all ≡ length xs + length ys = length-append xs ys in
-    let long = length-memory_bits b at all in
-    let mid : ℕ = length xs * b in
-    let end : ℕ = (length xs + length ys) * b in
-    let both : end ≡ b * length all = rw many (omega arith) in
-    let order : mid ≤ end = omega arith in
-    let start : 0 ≡ 0 * b = omega arith in
-    let front : slice_range (memory_bits b at all) 0 mid ≡ memory_bits b at xs =
-    ap (λ (k : ℕ). slice_range (memory_bits b at all) k mid) start
-    ∙ sym (memory-range b at all 0 (length xs) some (omega arith) (omega arith))
-    ∙ ap (memory_bits b at) (between_from_start all (length xs) ∙ take_at xs ys (length xs) refl) in
-    let rest : slice_range (memory_bits b at all) mid end ≡ memory_bits b at ys =
-    sym (memory-range b at all (length xs) (length xs + length ys) some (omega arith) (omega arith)) ∙ ap (memory_bits b at) (range-rest xs ys) in
-    sym (range-all (memory_bits b at all) end (omega arith)) ∙ ranges-joined (memory_bits b at all) 0 mid end (omega arith) order ∙ rw (front, rest) refl
 
 -- where elements were added behind, the first bits are as before
 pub front-grown : (b : ℕ) (at : ℕ → ℕ → ℕ) (xs ys : List ℕ) (n : ℕ) → 0 < b → n ≤ b * length xs → front_bits (memory_bits b at (xs ++ ys)) n ≡ front_bits (memory_bits b at xs) n

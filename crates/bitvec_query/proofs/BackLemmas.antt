@@ -75,3 +75,5 @@ module _ (base word : ℕ) (old now : List ℕ) (left rest : ℕ) (before : Writ
       let first : left ≡ 0 = omega arith in
       let whole : length all - left ≡ length all = omega arith in
       sym (ap (λ (m : ℕ). drop m now) first) ∙ before.behind ∙ ap (λ (l : List ℕ). reverse l ++ drop (length all) old) (ap (λ (m : ℕ). take m all) whole ∙ take_all (length all) all (omega arith))
+
+pub ruleset writing_back = (places-most, places-count, back-begun, back-more, back-next, back-ended)

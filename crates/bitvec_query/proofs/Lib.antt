@@ -1,11 +1,11 @@
-mod BackLemmas
+pub mod BackLemmas
 mod KeptLemmas
 mod LowestLemmas
 mod OnesLemmas
 mod OrderOnesLemmas
 mod PushedLemmas
-mod TakingLemmas
-mod WrittenLemmas
+pub mod TakingLemmas
+pub mod WrittenLemmas
 pub mod IndicesLaws
 pub mod KeptLaws
 pub mod LoadsLaws

@@ -1,5 +1,5 @@
 -- Turns, one after the other.
-use Rattle.std.specs.Prelude.{◌≡◌, ◌+◌, ◌-◌, Option, Some, None, List, [], ◌∷◌, ◌++◌, length, take, refl, MatchOption}
+use Rattle.std.specs.Prelude.{◌≡◌, ◌-◌, Option, Some, None, List, [], ◌∷◌, ◌++◌, length, take, refl, MatchOption}
 use Rattle.std.specs.List.{last_or}
 use Rattle.std.proofs.Common.{arith}
 use Rattle.std.proofs.Math.Seq.{take-append_seam}

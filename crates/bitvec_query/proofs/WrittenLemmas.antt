@@ -150,3 +150,5 @@ module _ (base word : ℕ) (old : List ℕ) where
         let count = length-map (word_ones word) (λ place. base + place) ∙ ones-count word fits in
         let left = length-drop n all in
         ⊎_elim (λ (none : rest ≡ 0). let long = ap length (before.left ∙ ap (map (λ place. base + place)) (ones-none rest none)) in omega arith) (λ (full : length old ≤ n). omega arith) ended
+
+pub ruleset writing = (ones-begun, ones-more, ones-next, ones-ended)

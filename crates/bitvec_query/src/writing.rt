@@ -95,6 +95,7 @@ fn write_ones<O: SliceOrder + WordOrder>(word: u64, base: usize, indices: &mut [
 
 /// Writes where the ones of a word stand from the least significant bit on, counted from `base`, as many
 /// as there is room for, and returns how many these are. It is kept out of the loop over words.
+#[tactic(auto, using(crate::proofs::WrittenLemmas::writing))]
 #[inline(never)]
 fn write_few(mut ones: u64, base: usize, indices: &mut [usize]) -> usize
     requires { base + 64 < 2 ^ 64 }
@@ -112,6 +113,7 @@ fn write_few(mut ones: u64, base: usize, indices: &mut [usize]) -> usize
 
 /// Writes the places of a word's ones. There is room for all of them, so none is tested. Condition: there are
 /// 64 places.
+#[tactic(auto, using(crate::proofs::WrittenLemmas::writing))]
 #[inline(always)]
 fn write_all(mut ones: u64, base: usize, indices: &mut [usize]) -> usize
     requires bound { base + 64 < 2 ^ 64 }
@@ -130,6 +132,7 @@ fn write_all(mut ones: u64, base: usize, indices: &mut [usize]) -> usize
 
 /// Writes them from the most significant bit down: the last place is written first, so that no word
 /// has to be reversed. Condition: as for [`write_all`].
+#[tactic(auto, using(crate::proofs::BackLemmas::writing_back))]
 #[inline(always)]
 fn write_back(mut ones: u64, base: usize, indices: &mut [usize]) -> usize
     requires bound { base + 64 < 2 ^ 64 }

@@ -3,15 +3,14 @@ use Rattle.std.specs.Prelude.{◌≡◌, ℕ, ◌+◌, ◌*◌, Bool, List, drop
 use Rattle.std.proofs.Common.{sym, ◌∙◌, ap}
 use Rattle.std.proofs.lemmas.List.{length-map, take_at}
 use Rattle.bitvec_base.specs.Memory.{Writes, memory_bits}
-use Rattle.bitvec_base.specs.MemoryLaws.{length-memory_bits}
 use Rattle.bitvec_base.specs.Window.{window_of, write_at, write_window}
 use Rattle.bitvec_base.specs.WindowLaws.{window-written}
-use Rattle.bitvec_base.specs.WriteLaws.{drop-write_at, take-write_at, write_at-all}
+use Rattle.bitvec_base.specs.WriteLaws.{drop-write_at, take-write_at}
 use Rattle.bitvec_store.specs.declared.store.BitStore.{Ghosts as Store}
 use Rattle.bitvec_base.specs.declared.order.BitOrder.{Ghosts as Order}
 use Rattle.bitvec_base.specs.declared.window.Window.{Window}
 use Rattle.bitvec_slice.specs.Lending.{with_elements}
-use Rattle.bitvec_slice.specs.Seen.{IsWhole, outside_of}
+use Rattle.bitvec_slice.specs.Seen.{outside_of}
 use Rattle.bitvec_slice.specs.SeenLaws.{within_memory}
 use Rattle.bitvec_slice.specs.Views.{seen_mut}
 use Rattle.bitvec_slice.specs.Writes.{WritesBits}
@@ -50,9 +49,3 @@ module _ {T O : Type 0} {t : Store T} {o : Order O} where
 
   pub has_written : (before after : BitSliceMut T O t o) (new : List Bool) → WritesBits before after new → (seen_mut after).bits ≡ new
   has_written before after new wrote = wrote.bits
-
-  -- a view of all bits of some elements, after they were written: its memory has the written bits, and no others
-  pub whole-written : (first last : BitSliceMut T O t o) (elements : List T) (new : List Bool) → WritesBits first last new → IsWhole t.BITS o.at t.value elements (seen_mut first) → length new ≡ t.BITS * length elements → (seen_mut last).memory ≡ new
-  whole-written first last elements new wrote whole long =
-      let all = length-memory_bits t.BITS o.at (map t.value first.elements.now) ∙ ap (λ (n : ℕ). t.BITS * n) (length-map first.elements.now t.value ∙ ap length whole.elements) in
-      wrote.memory ∙ ap (λ (s : ℕ). write_at (seen_mut first).memory s new) whole.start ∙ write_at-all (seen_mut first).memory new (long ∙ sym all)

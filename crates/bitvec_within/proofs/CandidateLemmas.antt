@@ -2,7 +2,7 @@
 use Rattle.std.specs.Prelude.{◌≡◌, ◌≢◌, ℕ, ◌+◌, ◌-◌, ◌^◌, ◌<◌, ◌≤◌, ◌&&◌, not, Bool, true, false, List, ◌++◌, length, replicate, slice_index_or, bit_and, drop, take, refl}
 use Rattle.std.proofs.Common.{arith, sym, ◌∙◌, ap, ⊎_elim}
 use Rattle.std.proofs.lemmas.Bool.{cases_lt}
-use Rattle.std.proofs.lemmas.List.{get_or-append_right, get_or-map, get_or-replicate, get_or_append_left, places}
+use Rattle.std.proofs.lemmas.List.{get_or-map, get_or-replicate, places}
 use Rattle.std.proofs.Math.ListN.{get_or-eq_default}
 use Rattle.bitvec_base.specs.FoundLaws.{bit-clear, bit-set, masked-none, masked-one}
 use Rattle.bitvec_base.specs.Lists.{shifted_start}
@@ -74,16 +74,10 @@ module _ (at : ℕ → ℕ → ℕ) where
   bits-own word k below = let place : k ≡ 0 + k = omega arith in ap (λ (n : ℕ). slice_index_or (element_bits 64 at word) n false) place
 
   pub bits-first : (low high : ℕ) → HasBitsFrom at low (element_bits 64 at low ++ element_bits 64 at high) 0
-  bits-first low high k below =
-      let long = length-element_bits 64 at low in
-      let place : k ≡ 0 + k = omega arith in
-      sym (get_or_append_left (element_bits 64 at low) (element_bits 64 at high) false k (omega arith)) ∙ ap (λ (n : ℕ). slice_index_or (element_bits 64 at low ++ element_bits 64 at high) n false) place
+  bits-first low high k below = grind (arith, places, length-element_bits)
 
   pub bits-second : (low high : ℕ) → HasBitsFrom at high (element_bits 64 at low ++ element_bits 64 at high) 64
-  bits-second low high k below =
-      let long = length-element_bits 64 at low in
-      let place : 64 + k - 64 ≡ k = omega arith in
-      sym (get_or-append_right (element_bits 64 at low) (element_bits 64 at high) 64 (64 + k) false long (omega arith) ∙ ap (λ (n : ℕ). slice_index_or (element_bits 64 at high) n false) place)
+  bits-second low high k below = grind (arith, places, length-element_bits)
 
   pub bits-moved : (list : List Bool) (step front behind new : ℕ) → HasBitsFrom at front list step → HasBitsFrom at behind list (step + 64) → element_bits 64 at new ≡ drop 1 (element_bits 64 at front) ++ take 1 (element_bits 64 at behind) → HasBitsFrom at new list (step + 1)
   bits-moved list step front behind new here after is k below =

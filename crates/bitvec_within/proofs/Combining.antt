@@ -15,7 +15,7 @@ use Rattle.bitvec_words.specs.Operator.{operator}
 use Rattle.bitvec_words.specs.declared.operator.BitOp.{BitOp}
 use Rattle.bitvec_within.specs.Combined.{combined_within}
 use Rattle.bitvec_within.specs.CombinedLaws.{combined_within-before, combined_within-next, combined_within-none}
-use Rattle.bitvec_within.specs.Ranges.{AreSides, Combines, HasRanges, LieApart, combined_ranges, first_of, joined_sides, rest_of}
+use Rattle.bitvec_within.specs.Ranges.{AreSides, Combines, HasRanges, LieInOrder, combined_ranges, first_of, joined_sides, rest_of}
 use Rattle.bitvec_within.specs.declared.combining_within.Ranges.{Ranges}
 use Rattle.bitvec_within.proofs.Edges.{Writes-in_front, Writes-in_rest, list-in_front, list-in_rest}
 
@@ -55,11 +55,11 @@ none-combined b at xs r op has none =
     record { bits = sym (combined_within-none (operator op) r.from (r.from + r.len) r.to (memory_bits b at xs) (omega arith) (omega arith)); elements = refl }
 
 -- the first n bits of each, and those behind them, lie as the ranges do
-pub rest-apart : (later : Bool) (r : Ranges) (n : ℕ) → n ≤ r.len → LieApart later r → LieApart later (rest_of r n)
+pub rest-apart : (later : Bool) (r : Ranges) (n : ℕ) → n ≤ r.len → LieInOrder later r → LieInOrder later (rest_of r n)
 rest-apart true r n fits apart = omega arith
 rest-apart false r n fits apart = omega arith
 
-kept-apart : (later : Bool) (r : Ranges) → LieApart later r → (r.to ≤ r.from) ⊎ (r.from + r.len ≤ r.to)
+kept-apart : (later : Bool) (r : Ranges) → LieInOrder later r → (r.to ≤ r.from) ⊎ (r.from + r.len ≤ r.to)
 kept-apart true r apart = inr apart
 kept-apart false r apart = inl (omega arith)
 
@@ -71,7 +71,7 @@ pub is_earlier : (n : ℕ) → n ≡ 0 → not (nat_eq n 0) ≡ false
 is_earlier n none = rw none refl
 
 -- they are combined one after the other
-pub parts-combined : (b : ℕ) (at : ℕ → ℕ → ℕ) (old mid new : List ℕ) (r : Ranges) (op : BitOp) (n : ℕ) (later : Bool) → HasRanges b old r → n ≤ r.len → LieApart later r → Combines b at old mid (first_of r n) op → Combines b at mid new (rest_of r n) op → Combines b at old new r op
+pub parts-combined : (b : ℕ) (at : ℕ → ℕ → ℕ) (old mid new : List ℕ) (r : Ranges) (op : BitOp) (n : ℕ) (later : Bool) → HasRanges b old r → n ≤ r.len → LieInOrder later r → Combines b at old mid (first_of r n) op → Combines b at mid new (rest_of r n) op → Combines b at old new r op
 parts-combined b at old mid new r op n later has fits apart first second =
     let long = length-memory_bits b at old in
     let source = has.source in
@@ -170,7 +170,7 @@ cut_windows true r = (far_of r, source_of r)
 cut_windows false r = (target_of r, far_of r)
 
 module _ {A : Type 0} (b bits m : ℕ) (value : A → ℕ) (cells left right : List A) (r : Ranges) (same : bits ≡ b) (has : HasRanges b (map value cells) r) (last : m ≡ max r.from r.to) (edge : m % b ≡ 0) where
-  pub sides-inside : (later : Bool) → LieApart later r → AreSides later (m / bits) cells left right → HasWindow b (map value left) (cut_windows later r).0 × HasWindow b (map value right) (cut_windows later r).1
+  pub sides-inside : (later : Bool) → LieInOrder later r → AreSides later (m / bits) cells left right → HasWindow b (map value left) (cut_windows later r).0 × HasWindow b (map value right) (cut_windows later r).1
   sides-inside true apart sides =
       let cut = cut-at b bits value right m r.to same sides.1 edge (omega arith) in
       let all = rw (sides.0, map-append value right left) at has in
@@ -181,7 +181,7 @@ module _ {A : Type 0} (b bits m : ℕ) (value : A → ℕ) (cells left right : L
       let all = rw (sides.0, map-append value left right) at has in
       both-inside b (map value left) (map value right) r.to r.from r.len all.fits apart all.source cut
 
-  pub sides-combined : (at : ℕ → ℕ → ℕ) (some : 0 < b) (new : List A) (op : BitOp) (later : Bool) → LieApart later r → AreSides later (m / bits) cells left right
+  pub sides-combined : (at : ℕ → ℕ → ℕ) (some : 0 < b) (new : List A) (op : BitOp) (later : Bool) → LieInOrder later r → AreSides later (m / bits) cells left right
       → Writes b at (map value left) (map value new) (cut_windows later r).0 (combined (operator op) (list_in b at (map value left) (cut_windows later r).0) (list_in b at (map value right) (cut_windows later r).1))
       → Combines b at (map value cells) (map value (joined_sides later new right)) r op
   sides-combined at some new op true apart sides writes =

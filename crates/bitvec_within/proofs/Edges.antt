@@ -4,8 +4,7 @@ use Rattle.std.proofs.Common.{arith, rules, sym, ◌∙◌, ap, subst, length-ap
 use Rattle.std.proofs.Math.Nat.{div-add-mod, mul-add}
 use Rattle.std.proofs.lemmas.List.{length-map, map-append, places, same_lists}
 use Rattle.bitvec_base.specs.Memory.{HasWindow, Writes, list_in, memory_bits}
-use Rattle.bitvec_base.specs.MemoryLaws.{length-memory_bits, memory-range}
-use Rattle.bitvec_base.specs.SliceLaws.{range-all, range-join}
+use Rattle.bitvec_base.specs.MemoryLaws.{length-memory_bits, memory-append}
 use Rattle.bitvec_base.specs.Window.{window_of, window_range, write_at}
 use Rattle.bitvec_base.specs.WritesLaws.{HasWindow-kept, Writes-next, Writes-range, list-range}
 use Rattle.bitvec_base.specs.declared.window.Window.{Window}
@@ -13,13 +12,6 @@ use Rattle.bitvec_words.specs.WholeLaws.{window-same}
 use Rattle.bitvec_within.specs.Swaps.{swapped_within}
 
 module _ {X : Type 0} (front rest : List X) where
-  -- each of two lists in both, one after the other
-  range-front_of : slice_range (front ++ rest) 0 (length front) ≡ front
-  range-front_of = same_lists _ _ (search (rules, places)) (λ k d inside. grind (arith, places))
-
-  range-rest_of : (n : ℕ) → n ≡ length (front ++ rest) → slice_range (front ++ rest) (length front) n ≡ rest
-  range-rest_of n all = same_lists _ _ (search (rules, places)) (λ k d inside. grind (arith, places))
-
   -- what is read and written in one of two lists, of both
   range-in_front : (s e : ℕ) → e ≤ length front → slice_range (front ++ rest) s e ≡ slice_range front s e
   range-in_front s e fits = same_lists _ _ (search (rules, places)) (λ k d inside. grind (arith, places))
@@ -36,22 +28,6 @@ module _ {X : Type 0} (front rest : List X) where
   write_at-in_rest s new fits = same_lists _ _ (search (rules, places)) (λ k d inside. grind (arith, places))
 
 module _ (b : ℕ) (at : ℕ → ℕ → ℕ) (some : 0 < b) where
-  -- the bits of two lists of elements, one after the other
-  memory-append : (front rest : List ℕ) → memory_bits b at (front ++ rest) ≡ memory_bits b at front ++ memory_bits b at rest
-  memory-append front rest =
-      let all = front ++ rest in
-      let m = length front in
-      let n = length all in
-      let sum = length-append front rest in
-      let whole = length-memory_bits b at all in
-      let product : n * b ≡ b * n = omega arith in
-      sym (
-      ap (λ (l : List Bool). l ++ memory_bits b at rest) (ap (memory_bits b at) (sym (range-front_of front rest)) ∙ memory-range b at all 0 m some (omega arith) (omega arith))
-      ∙ ap (λ (l : List Bool). slice_range (memory_bits b at all) (0 * b) (m * b) ++ l) (ap (memory_bits b at) (sym (range-rest_of front rest n refl)) ∙ memory-range b at all m n some (omega arith) (omega arith))
-      ∙ range-join (memory_bits b at all) (0 * b) (m * b) (n * b) (omega arith) (rw sum (omega arith)) (omega arith)
-      ∙ ap (λ (s : ℕ). slice_range (memory_bits b at all) s (n * b)) (let first : 0 * b ≡ 0 = omega arith in first)
-      ∙ range-all (memory_bits b at all) (n * b) (omega arith))
-
   module _ (front rest : List ℕ) where
     -- a window of the first elements, and one of the others, which stands behind the first ones' bits
     abbrev behind : Window → Window
@@ -63,7 +39,7 @@ module _ (b : ℕ) (at : ℕ → ℕ → ℕ) (some : 0 < b) where
         let long = length-memory_bits b at front in
         let start = has.within.start in
         let len = has.within.len in
-        ap (λ (l : List Bool). slice_range l window.start (window.start + window.len)) (memory-append front rest)
+        ap (λ (l : List Bool). slice_range l window.start (window.start + window.len)) (memory-append b at front rest some)
         ∙ range-in_front (memory_bits b at front) (memory_bits b at rest) window.start (window.start + window.len) (omega arith)
 
     pub list-in_rest : (window : Window) → list_in b at (front ++ rest) (behind window) ≡ list_in b at rest window
@@ -72,7 +48,7 @@ module _ (b : ℕ) (at : ℕ → ℕ → ℕ) (some : 0 < b) where
         let long = length-memory_bits b at front in
         let place : b * length front + window.start ≡ length (memory_bits b at front) + window.start = omega arith in
         let end : b * length front + window.start + window.len ≡ length (memory_bits b at front) + (window.start + window.len) = omega arith in
-        ap (λ (l : List Bool). slice_range l (b * length front + window.start) (b * length front + window.start + window.len)) (memory-append front rest)
+        ap (λ (l : List Bool). slice_range l (b * length front + window.start) (b * length front + window.start + window.len)) (memory-append b at front rest some)
         ∙ ap (λ (s : ℕ). slice_range (memory_bits b at front ++ memory_bits b at rest) s (b * length front + window.start + window.len)) place
         ∙ ap (λ (e : ℕ). slice_range (memory_bits b at front ++ memory_bits b at rest) (length (memory_bits b at front) + window.start) e) end
         ∙ range-in_rest (memory_bits b at front) (memory_bits b at rest) window.start (window.start + window.len)
@@ -84,9 +60,9 @@ module _ (b : ℕ) (at : ℕ → ℕ → ℕ) (some : 0 < b) where
         let len = has.within.len in
         let count = writes.long in
         record {
-          bits = memory-append new rest ∙ ap (λ (l : List Bool). l ++ memory_bits b at rest) writes.bits
+          bits = memory-append b at new rest some ∙ ap (λ (l : List Bool). l ++ memory_bits b at rest) writes.bits
               ∙ sym (write_at-in_front (memory_bits b at front) (memory_bits b at rest) window.start list (omega arith))
-              ∙ ap (λ (l : List Bool). write_at l window.start list) (sym (memory-append front rest));
+              ∙ ap (λ (l : List Bool). write_at l window.start list) (sym (memory-append b at front rest some));
           long = writes.long;
           elements = omega (arith, writes.elements, length-append new rest, length-append front rest);
         }
@@ -100,10 +76,10 @@ module _ (b : ℕ) (at : ℕ → ℕ → ℕ) (some : 0 < b) where
         let count = writes.long in
         let place : length (memory_bits b at front) + window.start ≡ b * length front + window.start = omega arith in
         record {
-          bits = memory-append front new ∙ ap (λ (l : List Bool). memory_bits b at front ++ l) writes.bits
+          bits = memory-append b at front new some ∙ ap (λ (l : List Bool). memory_bits b at front ++ l) writes.bits
               ∙ sym (write_at-in_rest (memory_bits b at front) (memory_bits b at rest) window.start list (omega arith))
               ∙ ap (λ (s : ℕ). write_at (memory_bits b at front ++ memory_bits b at rest) s list) place
-              ∙ ap (λ (l : List Bool). write_at l (b * length front + window.start) list) (sym (memory-append front rest));
+              ∙ ap (λ (l : List Bool). write_at l (b * length front + window.start) list) (sym (memory-append b at front rest some));
           long = writes.long;
           elements = omega (arith, writes.elements, length-append front new, length-append front rest);
         }

@@ -13,9 +13,9 @@ pub record HasRanges (b : ℕ) (xs : List ℕ) (r : Ranges) : Type 0 where
   pub target : r.to + r.len ≤ b * length xs
 
 -- they lie apart, and the one that is written after the other, or before it
-abbrev pub LieApart : Bool → Ranges → Type 0
-LieApart true r = r.from + r.len ≤ r.to
-LieApart false r = r.to + r.len ≤ r.from
+abbrev pub LieInOrder : Bool → Ranges → Type 0
+LieInOrder true r = r.from + r.len ≤ r.to
+LieInOrder false r = r.to + r.len ≤ r.from
 
 -- a list cut in two, of which `right` is the first part where `left` is later
 abbrev pub joined_sides : {X : Type 0} → Bool → List X → List X → List X

@@ -6,7 +6,7 @@ ghost use Rattle.bitvec_base.specs.Lists.{FitsWithin};
 ghost use Rattle.bitvec_base.specs.Memory.{Edits, HasWindow};
 ghost use Rattle.bitvec_words.specs.Operator.{operator};
 ghost use Rattle.bitvec_within.specs.Combined.{combined_within};
-ghost use Rattle.bitvec_within.specs.Ranges.{AreSides, Combines, HasRanges, LieApart, first_of, joined_sides, rest_of};
+ghost use Rattle.bitvec_within.specs.Ranges.{AreSides, Combines, HasRanges, LieInOrder, first_of, joined_sides, rest_of};
 
 use bitvec_base::Window;
 use bitvec_elements::combine_block_in;
@@ -73,7 +73,7 @@ fn combine_apart<T: BitStore, O: SliceOrder, const LATER: bool>(
     op: BitOp,
 )
     requires ranges { HasRanges T.BITS (map T.value elements.old) ranges }
-    requires apart { LieApart LATER ranges }
+    requires apart { LieInOrder LATER ranges }
     ensures combines { Combines T.BITS O.at (map T.value elements.old) (map T.value elements.new) ranges op }
 {
     let bits = T::BITS as usize;
@@ -104,7 +104,7 @@ fn combine_any<T: BitStore, O: SliceOrder, const LATER: bool>(
     op: BitOp,
 )
     requires ranges { HasRanges T.BITS (map T.value elements.old) ranges }
-    requires apart { LieApart LATER ranges }
+    requires apart { LieInOrder LATER ranges }
     ensures combines { Combines T.BITS O.at (map T.value elements.old) (map T.value elements.new) ranges op }
 {
     match op {
@@ -123,7 +123,7 @@ fn combine_parts<T: BitStore, O: SliceOrder, const LATER: bool>(
     op: BitOp,
 )
     requires ranges { HasRanges T.BITS (map T.value elements.old) ranges }
-    requires apart { LieApart LATER ranges }
+    requires apart { LieInOrder LATER ranges }
     ensures combines { Combines T.BITS O.at (map T.value elements.old) (map T.value elements.new) ranges op }
 {
     let later = ranges.from.max(ranges.to);
@@ -154,7 +154,7 @@ fn combine_cut<T: BitStore, O: SliceOrder, const LATER: bool>(
     op: BitOp,
 )
     requires ranges { HasRanges T.BITS (map T.value elements.old) ranges }
-    requires apart { LieApart LATER ranges }
+    requires apart { LieInOrder LATER ranges }
     requires edge { max ranges.from ranges.to % T.BITS ≡ 0 }
     ensures combines { Combines T.BITS O.at (map T.value elements.old) (map T.value elements.new) ranges op }
 {

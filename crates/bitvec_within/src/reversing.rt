@@ -1,12 +1,14 @@
 //! The bits of a window of a slice of elements in the opposite order.
+#![tactic(auto, using(bitvec_elements::proofs::Directions::by_direction))]
+
 ghost use Rattle.std.specs.Prelude.{◌≤◌, map, reverse as reversal};
 ghost use Rattle.bitvec_base.specs.Memory.{Edits, HasWindow};
 
-use crate::few::is_few;
-use bitvec_base::{Lsb0, Msb0, Window};
+use crate::few::{is_few, store_word};
+use bitvec_base::Window;
 use bitvec_cells::Exclusive;
-use bitvec_elements::few_word;
-use bitvec_engine::{Direction, SliceOrder, direction_of, store_few};
+use bitvec_elements::{few_word, return_by_direction};
+use bitvec_engine::SliceOrder;
 use bitvec_store::BitStore;
 use bitvec_words::{WORD_BITS, WordOrder, moved, reversed};
 
@@ -18,11 +20,7 @@ pub fn reverse_in<T: BitStore, O: SliceOrder>(elements: &mut [T], window: Window
     ensures writes { Edits T.BITS O.at (map T.value elements.old) (map T.value elements.new) window reversal }
 {
     if is_few::<T>(window.len) {
-        match direction_of::<O, T>() {
-            Direction::Up => return reverse_few::<Lsb0, T>(elements, window),
-            Direction::Down => return reverse_few::<Msb0, T>(elements, window),
-            Direction::Other => {}
-        }
+        return_by_direction!(O, T => reverse_few::<_, T>(elements, window));
     }
     let mut accessor = Exclusive::new(elements);
     O::block_reverse::<Exclusive<T>>(&mut accessor, window);
@@ -37,6 +35,5 @@ fn reverse_few<W: WordOrder, T: BitStore>(elements: &mut [T], window: Window)
     let word = reversed::<W, u64>(few_word::<W, T>(&*elements, window));
     // the bits of the window are the last ones now
     let mirrored = moved::<W, u64, u64>(word, WORD_BITS - window.len, window.len, 0);
-    let mut accessor = Exclusive::new(elements);
-    store_few::<W, Exclusive<T>>(&mut accessor, window, mirrored);
+    store_word::<W, T>(elements, window, mirrored);
 }

@@ -1,15 +1,17 @@
 //! The bits of a window of a slice of elements rotated: by exchanges of blocks, down to few bits that are held aside.
+#![tactic(auto, using(bitvec_elements::proofs::Directions::by_direction, bitvec_elements::proofs::StoreLemmas::ranged))]
+
 ghost use Rattle.std.specs.Prelude.{◌≡◌, ◌*◌, ◌-◌, ◌≤◌, length, map, take};
 ghost use Rattle.bitvec_base.specs.Lists.{rotated_left, rotated_right};
 ghost use Rattle.bitvec_base.specs.Memory.{Edits, HasWindow, element_bits};
 ghost use Rattle.bitvec_words.specs.ShortWindow.{padded};
 
 use crate::copying_within::copy_within_in;
+use crate::few::store_word;
 use crate::swapping_within::swap_ranges;
-use bitvec_base::{Lsb0, Msb0, Window};
-use bitvec_cells::Exclusive;
-use bitvec_elements::{copy_from_long_block_in, few_word};
-use bitvec_engine::{Direction, SliceOrder, direction_of, store_few};
+use bitvec_base::Window;
+use bitvec_elements::{copy_from_long_block_in, few_word, return_by_direction};
+use bitvec_engine::SliceOrder;
 use bitvec_store::BitStore;
 use bitvec_words::{WORD_BITS, WordOrder, moved};
 
@@ -22,11 +24,7 @@ pub fn rotate_left_in<T: BitStore, O: SliceOrder>(elements: &mut [T], window: Wi
     ensures writes { Edits T.BITS O.at (map T.value elements.old) (map T.value elements.new) window (rotated_left by) }
 {
     if window.len <= WORD_BITS {
-        match direction_of::<O, T>() {
-            Direction::Up => return rotate_few::<Lsb0, T>(elements, window, by),
-            Direction::Down => return rotate_few::<Msb0, T>(elements, window, by),
-            Direction::Other => {}
-        }
+        return_by_direction!(O, T => rotate_few::<_, T>(elements, window, by));
     }
     rotate_many::<T, O>(elements, window, by);
 }
@@ -50,8 +48,7 @@ fn rotate_few<W: WordOrder, T: BitStore>(elements: &mut [T], window: Window, by:
 {
     let word = few_word::<W, T>(&*elements, window);
     let rotated = rotated_word::<W>(word, window.len, by);
-    let mut accessor = Exclusive::new(elements);
-    store_few::<W, Exclusive<T>>(&mut accessor, window, rotated);
+    store_word::<W, T>(elements, window, rotated);
 }
 
 /// The word whose first `len` bits are those of `word` rotated so that the one at `by` comes first; the

@@ -1,15 +1,15 @@
 //! The bits of a window of a slice of elements shifted towards one of its ends.
-ghost use Rattle.std.specs.Prelude.{◌≡◌, ◌≢◌, ◌%◌, ◌≤◌, ◌==◌, false, map, true};
+#![tactic(auto, using(bitvec_elements::proofs::Directions::by_direction))]
+
+ghost use Rattle.std.specs.Prelude.{◌≡◌, ◌%◌, ◌≤◌, ◌==◌, map};
 ghost use Rattle.bitvec_base.specs.Lists.{shifted_end, shifted_start};
 ghost use Rattle.bitvec_base.specs.Memory.{Edits, HasWindow};
-ghost use Rattle.bitvec_engine.specs.Direction.{Runs};
-ghost use Rattle.bitvec_engine.specs.declared.order_direction.Direction.TheVariants.{Other};
 
-use crate::few::is_few;
-use bitvec_base::{BitOrder, Lsb0, Msb0, Window};
+use crate::few::{is_few, store_word};
+use bitvec_base::Window;
 use bitvec_cells::Exclusive;
-use bitvec_elements::few_word;
-use bitvec_engine::{Direction, SliceOrder, direction_of, shift_end, shift_start, store_few};
+use bitvec_elements::{few_word, return_by_direction};
+use bitvec_engine::{SliceOrder, shift_end, shift_start};
 use bitvec_store::BitStore;
 use bitvec_words::{WORD_BITS, WordOrder, moved};
 
@@ -22,19 +22,7 @@ pub fn shift_start_in<T: BitStore, O: SliceOrder>(elements: &mut [T], window: Wi
     requires bound { by ≤ window.len }
     ensures writes { Edits T.BITS O.at (map T.value elements.old) (map T.value elements.new) window (shifted_start by) }
 {
-    let direction = direction_of::<O, T>();
-    if is_known(direction) {
-        if is_few::<T>(window.len) {
-            return shift_start_word::<T, O>(elements, window, by, direction);
-        }
-        if by < WORD_BITS && window.len > WORD_BITS && is_edge::<T>(window.start + window.len) {
-            let rest = window.len - WORD_BITS;
-            let mut accessor = Exclusive::new(&mut *elements);
-            O::block_copy_within::<Exclusive<T>>(&mut accessor, window, by, by + rest, 0);
-            let last = window.range(rest, window.len);
-            return shift_start_word::<T, O>(elements, last, by, direction);
-        }
-    }
+    return_by_direction!(O, T => shift_start_run::<_, T>(elements, window, by));
     let mut accessor = Exclusive::new(elements);
     shift_start::<O, Exclusive<T>>(&mut accessor, window, by);
 }
@@ -46,25 +34,7 @@ pub fn shift_end_in<T: BitStore, O: SliceOrder>(elements: &mut [T], window: Wind
     requires bound { by ≤ window.len }
     ensures writes { Edits T.BITS O.at (map T.value elements.old) (map T.value elements.new) window (shifted_end by) }
 {
-    let direction = direction_of::<O, T>();
-    if is_known(direction) {
-        if is_few::<T>(window.len) {
-            return shift_end_word::<T, O>(elements, window, by, direction);
-        }
-        if by < WORD_BITS && window.len > WORD_BITS && is_edge::<T>(window.start) {
-            let kept = window.len - by;
-            let mut accessor = Exclusive::new(&mut *elements);
-            O::block_copy_within::<Exclusive<T>>(
-                &mut accessor,
-                window,
-                WORD_BITS - by,
-                kept,
-                WORD_BITS,
-            );
-            let first = window.range(0, WORD_BITS);
-            return shift_end_word::<T, O>(elements, first, by, direction);
-        }
-    }
+    return_by_direction!(O, T => shift_end_run::<_, T>(elements, window, by));
     let mut accessor = Exclusive::new(elements);
     shift_end::<O, Exclusive<T>>(&mut accessor, window, by);
 }
@@ -76,56 +46,50 @@ fn is_edge<T: BitStore>(place: usize) -> bool
     place % T::BITS as usize == 0
 }
 
-/// Whether it is known which way an order runs.
-fn is_known(direction: Direction) -> bool
-    ensures known { result ≡ true → direction ≢ Other }
-    ensures other { result ≡ false → direction ≡ Other }
-{
-    !matches!(direction, Direction::Other)
-}
-
-/// [`shift_start_in`] of few bits under an order that runs in a known direction.
+/// [`shift_start_in`] under an order that runs from one end of an element to the other.
 #[inline(always)]
-fn shift_start_word<T: BitStore, O: BitOrder>(
+fn shift_start_run<W: WordOrder + SliceOrder, T: BitStore>(
     elements: &mut [T],
     window: Window,
     by: usize,
-    direction: Direction,
 )
     requires window { HasWindow T.BITS (map T.value elements.old) window }
     requires bound { by ≤ window.len }
-    requires few { window.len ≤ 64 }
-    requires runs { Runs direction T.BITS O.at }
-    requires known { direction ≢ Other }
-    ensures writes { Edits T.BITS O.at (map T.value elements.old) (map T.value elements.new) window (shifted_start by) }
+    ensures writes { Edits T.BITS W.at (map T.value elements.old) (map T.value elements.new) window (shifted_start by) }
 {
-    match direction {
-        Direction::Up => shift_start_few::<Lsb0, T>(elements, window, by),
-        Direction::Down => shift_start_few::<Msb0, T>(elements, window, by),
-        Direction::Other => {}
+    if is_few::<T>(window.len) {
+        return shift_start_few::<W, T>(elements, window, by);
     }
+    let mut accessor = Exclusive::new(&mut *elements);
+    if by < WORD_BITS && window.len > WORD_BITS && is_edge::<T>(window.start + window.len) {
+        let rest = window.len - WORD_BITS;
+        W::block_copy_within::<Exclusive<T>>(&mut accessor, window, by, by + rest, 0);
+        return shift_start_few::<W, T>(elements, window.range(rest, window.len), by);
+    }
+    shift_start::<W, Exclusive<T>>(&mut accessor, window, by);
 }
 
-/// [`shift_end_in`] of few bits under an order that runs in a known direction.
+/// [`shift_end_in`] under an order that runs from one end of an element to the other.
 #[inline(always)]
-fn shift_end_word<T: BitStore, O: BitOrder>(
+fn shift_end_run<W: WordOrder + SliceOrder, T: BitStore>(
     elements: &mut [T],
     window: Window,
     by: usize,
-    direction: Direction,
 )
     requires window { HasWindow T.BITS (map T.value elements.old) window }
     requires bound { by ≤ window.len }
-    requires few { window.len ≤ 64 }
-    requires runs { Runs direction T.BITS O.at }
-    requires known { direction ≢ Other }
-    ensures writes { Edits T.BITS O.at (map T.value elements.old) (map T.value elements.new) window (shifted_end by) }
+    ensures writes { Edits T.BITS W.at (map T.value elements.old) (map T.value elements.new) window (shifted_end by) }
 {
-    match direction {
-        Direction::Up => shift_end_few::<Lsb0, T>(elements, window, by),
-        Direction::Down => shift_end_few::<Msb0, T>(elements, window, by),
-        Direction::Other => {}
+    if is_few::<T>(window.len) {
+        return shift_end_few::<W, T>(elements, window, by);
     }
+    let mut accessor = Exclusive::new(&mut *elements);
+    if by < WORD_BITS && window.len > WORD_BITS && is_edge::<T>(window.start) {
+        let (from, to) = (WORD_BITS - by, window.len - by);
+        W::block_copy_within::<Exclusive<T>>(&mut accessor, window, from, to, WORD_BITS);
+        return shift_end_few::<W, T>(elements, window.range(0, WORD_BITS), by);
+    }
+    shift_end::<W, Exclusive<T>>(&mut accessor, window, by);
 }
 
 /// [`shift_start_in`] of few bits, as a word.
@@ -138,8 +102,7 @@ fn shift_start_few<W: WordOrder, T: BitStore>(elements: &mut [T], window: Window
 {
     let word = few_word::<W, T>(&*elements, window);
     let shifted = moved::<W, u64, u64>(word, by, window.len - by, 0);
-    let mut accessor = Exclusive::new(elements);
-    store_few::<W, Exclusive<T>>(&mut accessor, window, shifted);
+    store_word::<W, T>(elements, window, shifted);
 }
 
 /// [`shift_end_in`] of few bits, as a word.
@@ -152,6 +115,5 @@ fn shift_end_few<W: WordOrder, T: BitStore>(elements: &mut [T], window: Window, 
 {
     let word = few_word::<W, T>(&*elements, window);
     let shifted = moved::<W, u64, u64>(word, 0, window.len - by, by);
-    let mut accessor = Exclusive::new(elements);
-    store_few::<W, Exclusive<T>>(&mut accessor, window, shifted);
+    store_word::<W, T>(elements, window, shifted);
 }

@@ -91,6 +91,7 @@ fn swap_sides<T: BitStore, O: SliceOrder>(
 /// Exchanges `count` bits of a window from `first` on with as many from `second` on, by copies: the first
 /// ones are held aside. Conditions: as for [`swap_within_in`]; and `count` is at most the bits of an
 /// element.
+#[tactic(auto, using(bitvec_elements::proofs::StoreLemmas::ranged))]
 fn swap_few<T: BitStore, O: SliceOrder>(
     elements: &mut [T],
     window: Window,

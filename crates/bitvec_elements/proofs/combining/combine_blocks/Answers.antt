@@ -6,9 +6,7 @@ use Rattle.bitvec_base.specs.Memory.{list_in}
 use Rattle.bitvec_base.specs.WritesLaws.{length-list}
 use Rattle.bitvec_words.specs.Operator.{operator}
 use Rattle.bitvec_elements.proofs.RecutLemmas.{block-combined}
-use Rattle.bitvec_elements.proofs.StoreLemmas.{range-inside, range-kept, stretch-all, stretch-none}
-use Rattle.std.proofs.lemmas.Nat.{mul-le}
-use Rattle.bitvec_store.specs.WidthLaws.{width_some}
+use Rattle.bitvec_elements.proofs.StoreLemmas.{stretch-all, stretch-none}
 use Rattle.bitvec_elements.proofs.combining.combine_blocks.Goals as goal
 
 pub loop-start-init : goal.loop-start-init
@@ -17,12 +15,6 @@ loop-start-init g c = record {
   count = length-replicate _ _;
   writes = stretch-none _ _ _ _ c.args.to (combined (operator c.args.op) (list_in g.T.BitStore.BITS g.W.BitOrder.at (map g.T.BitStore.value c.args.left.now) c.args.to) (list_in g.U.BitStore.BITS g.P.BitOrder.at (map g.U.BitStore.value c.args.right.now) c.args.from)) c.requires.window refl;
 }
-
-pub hold-held-requires-clause-window : goal.hold-held-requires-clause-window
-hold-held-requires-clause-window g c = range-inside _ _ c.args.from _ _ _ c.requires.right_window c.range-other.ensures (omega arith) (omega arith)
-
-pub combine_block_in-requires-clause-window : goal.combine_block_in-requires-clause-window
-combine_block_in-requires-clause-window g c = range-kept _ _ _ c.args.to _ _ _ c.requires.window c.loop-start.invariant.writes.elements c.range.ensures (omega arith) (omega arith)
 
 pub loop-start-preserved : goal.loop-start-preserved
 loop-start-preserved g c =
@@ -36,6 +28,3 @@ pub returns : goal.returns
 returns g c =
     let long = length-list _ g.W.BitOrder.at _ _ c.requires.window in
     record { writes = stretch-all _ g.W.BitOrder.at _ _ c.args.to _ c.loop-start.start (omega arith) (length-combined (operator c.args.op) _ _ ∙ long) c.loop-start.invariant.writes }
-
-pub loop-start-smaller : goal.loop-start-smaller
-loop-start-smaller g c = let wide = width_some _ g.met.T.BitStore.width_law in omega (arith, mul-le 1 1 c.BITS.result g.row.HELD (omega arith) c.requires.some)

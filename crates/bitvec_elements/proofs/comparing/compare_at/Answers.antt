@@ -4,12 +4,6 @@ use Rattle.bitvec_base.specs.WritesLaws.{length-list}
 use Rattle.bitvec_elements.proofs.DifferenceLemmas.{common-differ}
 use Rattle.bitvec_elements.proofs.comparing.compare_at.Goals as goal
 
-pub get_bit-bit-requires-clause-window : goal.get_bit-bit-requires-clause-window
-get_bit-bit-requires-clause-window g c = rw c.new-left.ensures.numbers c.requires.window
-
-pub get_bit-other-requires-clause-window : goal.get_bit-other-requires-clause-window
-get_bit-other-requires-clause-window g c = rw c.new-right.ensures.numbers c.requires.right_window
-
 pub returns-then-common-min : goal.returns-then-common-min
 returns-then-common-min g c =
     let left = length-list _ g.O.BitOrder.at _ _ c.requires.window in

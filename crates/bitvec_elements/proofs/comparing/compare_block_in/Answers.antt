@@ -1,20 +1,7 @@
 use Rattle.std.proofs.Common.{◌+◌, ◌∙◌, arith, sym}
 use Rattle.bitvec_base.specs.CompareLaws.{order-behind, order-same, same-stretch}
-use Rattle.bitvec_base.specs.WritesLaws.{HasWindow-range, length-list, list-after, list-range}
-use Rattle.bitvec_elements.proofs.StoreLemmas.{range-inside}
+use Rattle.bitvec_base.specs.WritesLaws.{length-list, list-after, list-range}
 use Rattle.bitvec_elements.proofs.comparing.compare_block_in.Goals as goal
-
-pub eq_blocks_in-requires-clause-window : goal.eq_blocks_in-requires-clause-window
-eq_blocks_in-requires-clause-window g c = range-inside _ _ c.args.left_window _ _ _ c.requires.window c.range-part.ensures (omega arith) (omega arith)
-
-pub eq_blocks_in-requires-clause-right_window : goal.eq_blocks_in-requires-clause-right_window
-eq_blocks_in-requires-clause-right_window g c = range-inside _ _ c.args.right_window _ _ _ c.requires.right_window c.range-other.ensures (omega arith) (omega arith)
-
-pub common_words-common-requires-clause-window : goal.common_words-common-requires-clause-window
-common_words-common-requires-clause-window g c = rw c.after-rest.ensures (HasWindow-range _ _ c.args.left_window c.loop-from.from c.args.left_window.len c.requires.window (omega arith) (omega arith))
-
-pub common_words-common-requires-clause-right_window : goal.common_words-common-requires-clause-right_window
-common_words-common-requires-clause-right_window g c = rw c.after-other.ensures (HasWindow-range _ _ c.args.right_window c.loop-from.from c.args.right_window.len c.requires.right_window (omega arith) (omega arith))
 
 pub returns-then-not-eq_blocks_in : goal.returns-then-not-eq_blocks_in
 returns-then-not-eq_blocks_in g c =
@@ -42,6 +29,3 @@ pub returns : goal.returns
 returns g c =
     let at = g.O.BitOrder.at in
     rw c.cmp.ensures (order-same _ _ _ _ c.loop-from.from (length-list _ at _ _ c.requires.window) (length-list _ at _ _ c.requires.right_window) (omega arith) c.loop-from.invariant.same)
-
-pub loop-from-smaller : goal.loop-from-smaller
-loop-from-smaller g c = omega arith

@@ -1,7 +1,7 @@
 use Rattle.std.proofs.Common.{◌+◌, ◌≤◌, arith, map, refl, rules, sym, ◌∙◌}
 use Rattle.bitvec_base.specs.Memory.{list_in}
 use Rattle.bitvec_base.specs.WritesLaws.{length-list}
-use Rattle.bitvec_elements.proofs.StoreLemmas.{copied-stretch, range-inside, range-kept, stretch-all, stretch-none, stretch-stored}
+use Rattle.bitvec_elements.proofs.StoreLemmas.{copied-stretch, stretch-all, stretch-none, stretch-stored}
 use Rattle.bitvec_elements.proofs.copying.copy_words.Goals as goal
 
 pub loop-start-init : goal.loop-start-init
@@ -10,15 +10,6 @@ loop-start-init g c = record {
   writes = stretch-none _ _ _ _ c.args.to (list_in g.U.BitStore.BITS g.P.BitOrder.at (map g.U.BitStore.value c.args.right.now) c.args.from) c.requires.window c.new-cells.ensures.numbers;
   borrow = search rules;
 }
-
-pub window_word-word-requires-clause-window : goal.window_word-word-requires-clause-window
-window_word-word-requires-clause-window g c = range-inside _ _ c.args.from _ _ _ c.requires.beside c.range.ensures (omega arith) (omega arith)
-
-pub window_word-word-requires-clause-bound : goal.window_word-word-requires-clause-bound
-window_word-word-requires-clause-bound g c = rw c.range.ensures (omega arith)
-
-pub store_few-requires-clause-window : goal.store_few-requires-clause-window
-store_few-requires-clause-window g c = range-kept _ _ _ c.args.to _ _ _ c.requires.window c.loop-start.invariant.writes.elements c.range-in-loop-start.ensures (omega arith) (omega arith)
 
 pub loop-start-preserved : goal.loop-start-preserved
 loop-start-preserved g c =

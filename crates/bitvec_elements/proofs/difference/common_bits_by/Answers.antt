@@ -1,20 +1,8 @@
 use Rattle.std.proofs.Common.{◌+◌, arith, sym, ◌∙◌}
 use Rattle.bitvec_base.specs.WritesLaws.{length-list}
 use Rattle.bitvec_elements.proofs.DifferenceLemmas.{windows-apart, windows-same}
-use Rattle.bitvec_elements.proofs.StoreLemmas.{loaded-range, range-inside}
+use Rattle.bitvec_elements.proofs.StoreLemmas.{loaded-range}
 use Rattle.bitvec_elements.proofs.difference.common_bits_by.Goals as goal
-
-pub window_word-word-requires-clause-window : goal.window_word-word-requires-clause-window
-window_word-word-requires-clause-window g c = range-inside _ _ c.args.left_window _ _ _ c.requires.window c.range-part.ensures (omega arith) (omega arith)
-
-pub window_word-word-requires-clause-bound : goal.window_word-word-requires-clause-bound
-window_word-word-requires-clause-bound g c = rw c.range-part.ensures (omega arith)
-
-pub window_word-right_word-requires-clause-window : goal.window_word-right_word-requires-clause-window
-window_word-right_word-requires-clause-window g c = range-inside _ _ c.args.right_window _ _ _ c.requires.right_window c.range-right_part.ensures (omega arith) (omega arith)
-
-pub window_word-right_word-requires-clause-bound : goal.window_word-right_word-requires-clause-bound
-window_word-right_word-requires-clause-bound g c = rw c.range-right_part.ensures (omega arith)
 
 pub overflow_add-result : goal.overflow_add-result
 overflow_add-result g c =

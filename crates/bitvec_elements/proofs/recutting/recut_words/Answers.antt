@@ -1,28 +1,9 @@
-use Rattle.std.proofs.Common.{◌∙◌, arith, map, refl, rules, sym}
-use Rattle.std.proofs.lemmas.Nat.{mod_below}
+use Rattle.std.proofs.Common.{◌∙◌, arith, map, rules, sym}
 use Rattle.bitvec_base.specs.Memory.{list_in}
 use Rattle.bitvec_base.specs.WritesLaws.{length-list}
-use Rattle.bitvec_store.specs.WidthLaws.{width_some}
-use Rattle.bitvec_elements.proofs.RecutLemmas.{edge-window, word-inside, word-recut, word-window, word-place}
+use Rattle.bitvec_elements.proofs.RecutLemmas.{word-recut}
 use Rattle.bitvec_elements.proofs.StoreLemmas.{stretch-all, stretch-none}
 use Rattle.bitvec_elements.proofs.recutting.recut_words.Goals as goal
-
-pub word_behind-word-requires-clause-window : goal.word_behind-word-requires-clause-window
-word_behind-word-requires-clause-window g c =
-    let width = g.met.U.BitStore.width_law in
-    let narrow = c.requires.right_narrow in
-    let step = c.loop-step.step in
-    word-inside _ _ step c.args.from width c.BITS-2.ensures narrow _ _ _ c.requires.pair.beside refl (let lengths = c.requires.pair.lengths in omega arith) (word-window _ _ step c.args.from width c.BITS-2.ensures narrow)
-
-pub word_behind-word-requires-clause-inside : goal.word_behind-word-requires-clause-inside
-word_behind-word-requires-clause-inside g c = rw c.BITS-2.ensures (mod_below c.args.from.start g.U.BitStore.BITS (width_some _ g.met.U.BitStore.width_law))
-
-pub store_elements-requires-clause-window : goal.store_elements-requires-clause-window
-store_elements-requires-clause-window g c =
-    let width = g.met.T.BitStore.width_law in
-    let narrow = c.requires.narrow in
-    let step = c.loop-step.step in
-    word-inside _ _ step c.args.to width c.BITS.ensures narrow _ _ _ c.requires.pair.window c.loop-step.invariant.writes.elements (omega arith) (edge-window _ _ step c.args.to width c.BITS.ensures narrow c.requires.edge)
 
 pub loop-step-init : goal.loop-step-init
 loop-step-init g c = record {
@@ -44,15 +25,3 @@ returns g c =
     let long = length-list _ g.V.BitOrder.at _ _ c.requires.pair.beside ∙ sym lengths in
     let done = stretch-all _ g.W.BitOrder.at _ _ c.args.to _ _ (omega arith) long c.loop-step.invariant.writes in
     record { writes = record { bits = search (rules, done.bits); long = done.long; elements = search (rules, done.elements) } }
-
-pub overflow_mul-step : goal.overflow_mul-step
-overflow_mul-step g c = let lengths = c.requires.pair.lengths in let place = word-place _ _ c.loop-step.step c.args.from g.met.U.BitStore.width_law c.BITS-2.ensures c.requires.right_narrow _ c.requires.pair.beside (omega arith) in omega arith
-
-pub overflow_add-source : goal.overflow_add-source
-overflow_add-source g c = let lengths = c.requires.pair.lengths in record { fits = word-place _ _ c.loop-step.step c.args.from g.met.U.BitStore.width_law c.BITS-2.ensures c.requires.right_narrow _ c.requires.pair.beside (omega arith) }
-
-pub overflow_mul-step-in-loop-step : goal.overflow_mul-step-in-loop-step
-overflow_mul-step-in-loop-step g c = let place = word-place _ _ c.loop-step.step c.args.to g.met.T.BitStore.width_law c.BITS.ensures c.requires.narrow _ c.requires.pair.window (omega arith) in omega arith
-
-pub overflow_add-first : goal.overflow_add-first
-overflow_add-first g c = record { fits = word-place _ _ c.loop-step.step c.args.to g.met.T.BitStore.width_law c.BITS.ensures c.requires.narrow _ c.requires.pair.window (omega arith) }

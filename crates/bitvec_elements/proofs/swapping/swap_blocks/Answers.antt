@@ -1,11 +1,9 @@
 use Rattle.std.proofs.Common.{arith, map, refl, sym, ◌∙◌}
 use Rattle.std.proofs.lemmas.List.{length-map, length-replicate}
 use Rattle.bitvec_base.specs.Memory.{list_in}
-use Rattle.bitvec_base.specs.WritesLaws.{Writes-holds, length-list, HasWindow-kept}
+use Rattle.bitvec_base.specs.WritesLaws.{Writes-holds, length-list}
 use Rattle.bitvec_elements.proofs.RecutLemmas.{block-swapped}
-use Rattle.bitvec_elements.proofs.StoreLemmas.{range-kept, stretch-all, stretch-none}
-use Rattle.std.proofs.lemmas.Nat.{mul-le}
-use Rattle.bitvec_store.specs.WidthLaws.{width_some}
+use Rattle.bitvec_elements.proofs.StoreLemmas.{stretch-all, stretch-none}
 use Rattle.bitvec_elements.proofs.swapping.swap_blocks.Goals as goal
 
 pub loop-from-init : goal.loop-from-init
@@ -15,12 +13,6 @@ loop-from-init g c = record {
   writes = stretch-none _ _ _ _ c.args.left_window (list_in g.U.BitStore.BITS g.P.BitOrder.at (map g.U.BitStore.value c.args.right.now) c.args.right_window) c.requires.pair.window refl;
   right_writes = stretch-none _ _ _ _ c.args.right_window (list_in g.T.BitStore.BITS g.W.BitOrder.at (map g.T.BitStore.value c.args.left.now) c.args.left_window) c.requires.pair.beside refl;
 }
-
-pub hold-held-requires-clause-window : goal.hold-held-requires-clause-window
-hold-held-requires-clause-window g c = range-kept _ _ _ c.args.right_window _ _ _ c.requires.pair.beside c.loop-from.invariant.right_writes.elements c.range-other.ensures (omega arith) (let lengths = c.requires.pair.lengths in omega arith)
-
-pub swap_with_block_in-requires-clause-window : goal.swap_with_block_in-requires-clause-window
-swap_with_block_in-requires-clause-window g c = range-kept _ _ _ c.args.left_window _ _ _ c.requires.pair.window c.loop-from.invariant.writes.elements c.range-part.ensures (omega arith) (omega arith)
 
 pub loop-from-preserved : goal.loop-from-preserved
 loop-from-preserved g c =
@@ -44,13 +36,3 @@ returns g c =
       writes = stretch-all _ g.W.BitOrder.at _ _ c.args.left_window _ c.loop-from.from (omega arith) (right_long ∙ sym lengths) inv.writes;
       right_writes = stretch-all _ g.P.BitOrder.at _ _ c.args.right_window _ c.loop-from.from (omega arith) (long ∙ lengths) inv.right_writes;
     }
-
-pub copy_from_in-requires : goal.copy_from_in-requires
-copy_from_in-requires g c = record {
-  window = range-kept _ _ _ c.args.right_window _ _ _ c.requires.pair.beside c.loop-from.invariant.right_writes.elements c.range-other.ensures (omega arith) (let lengths = c.requires.pair.lengths in omega arith);
-  right_window = HasWindow-kept _ _ _ c.hold-held.result c.hold-held.ensures.window c.swap_with_block_in.ensures.right_writes.elements;
-  lengths = sym c.hold-held.ensures.lengths;
-}
-
-pub loop-from-smaller : goal.loop-from-smaller
-loop-from-smaller g c = let wide = width_some _ g.met.T.BitStore.width_law in omega (arith, mul-le 1 1 c.BITS.result g.row.HELD (omega arith) c.requires.some)

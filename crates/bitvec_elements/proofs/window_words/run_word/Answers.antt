@@ -1,24 +1,10 @@
-use Rattle.std.proofs.Common.{ℕ, ◌+◌, ◌*◌, ◌/◌, ◌%◌, arith, ap, sym, ◌∙◌, map, slice_range}
-use Rattle.std.proofs.lemmas.Nat.{div-add-mod', mod_below}
+use Rattle.std.proofs.Common.{ℕ, ◌+◌, ◌*◌, ◌/◌, ◌%◌, ap, sym, ◌∙◌, map, slice_range}
+use Rattle.std.proofs.lemmas.Nat.{div-add-mod'}
 use Rattle.bitvec_base.specs.Memory.{memory_bits}
 use Rattle.bitvec_base.specs.Window.{window_of}
 use Rattle.bitvec_base.specs.WritesLaws.{length-list}
 use Rattle.bitvec_words.specs.WordLaws.{padded-all, word_whole}
-use Rattle.bitvec_store.specs.WidthLaws.{width_some}
 use Rattle.bitvec_elements.proofs.window_words.run_word.Goals as goal
-
-pub word_behind-requires-clause-window : goal.word_behind-requires-clause-window
-word_behind-requires-clause-window g c =
-    let b = g.T.BitStore.BITS in
-    let whole = word_whole b g.met.T.BitStore.width_law (rw c.BITS-bits.ensures at c.if-bits-le-WORD_BITS.true) in
-    let place = div-add-mod' c.args.window.start b in
-    let size = c.if-window-eq-WORD_BITS.true in
-    let start = c.requires.window.within.start in
-    let end = c.requires.window.within.len in
-    rw c.BITS-bits.ensures (record { fits = c.requires.window.fits; within = record { start = omega arith; len = omega arith } })
-
-pub word_behind-requires-clause-inside : goal.word_behind-requires-clause-inside
-word_behind-requires-clause-inside g c = rw c.BITS-bits.ensures (mod_below c.args.window.start g.T.BitStore.BITS (width_some _ g.met.T.BitStore.width_law))
 
 pub returns-then-bits-le-WORD_BITS : goal.returns-then-bits-le-WORD_BITS
 unfolding window_of

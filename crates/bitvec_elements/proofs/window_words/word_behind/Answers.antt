@@ -6,23 +6,7 @@ use Rattle.bitvec_base.specs.Window.{window_of}
 use Rattle.bitvec_words.specs.AcrossLaws.{word-across}
 use Rattle.bitvec_words.specs.WordLaws.{word_whole}
 use Rattle.bitvec_words.specs.FieldLaws.{element_of}
-use Rattle.bitvec_elements.proofs.ElementLemmas.{next-inside}
 use Rattle.bitvec_elements.proofs.window_words.word_behind.Goals as goal
-
-pub load_elements-word-requires-clause-window : goal.load_elements-word-requires-clause-window
-load_elements-word-requires-clause-window g c =
-    let start = c.requires.window.within.start in
-    let end = c.requires.window.within.len in
-    rw c.new-cells.ensures.numbers (record { fits = c.requires.window.fits; within = record { start = omega arith; len = omega arith } })
-
-pub returns-then-skip-eq0 : goal.returns-then-skip-eq0
-unfolding window_of
-returns-then-skip-eq0 g c =
-    let b = g.T.BitStore.BITS in
-    let bits = memory_bits b g.W.BitOrder.at (map g.T.BitStore.value c.args.elements.now) in
-    let none = c.if-skip-eq0.true in
-    let start : c.args.first * b ≡ c.args.first * b + c.args.skip = omega arith in
-    (rw c.new-cells.ensures.numbers at c.load_elements-word.ensures.value) ∙ ap (λ (s : ℕ). slice_range bits s (s + 64 / b * b)) start
 
 pub returns : goal.returns
 unfolding window_of
@@ -52,9 +36,3 @@ returns g c =
     joined
     ∙ word-across bits (first * b) b skip below c.requires.narrow (omega arith)
     ∙ ap (λ (n : ℕ). slice_range bits (first * b + skip) (first * b + skip + n)) (sym whole)
-
-pub bounds-elements-first : goal.bounds-elements-first
-bounds-elements-first g c = rw c.BITS-bits.ensures (next-inside g.T.BitStore.value _ _ _ _ g.met.T.BitStore.width_law c.requires.narrow (omega arith) c.requires.window)
-
-pub offset_bounds-elements-first : goal.offset_bounds-elements-first
-offset_bounds-elements-first g c = rw c.BITS-bits.ensures (let inside = next-inside g.T.BitStore.value _ _ _ _ g.met.T.BitStore.width_law c.requires.narrow (omega arith) c.requires.window in omega arith)

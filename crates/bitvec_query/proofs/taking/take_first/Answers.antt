@@ -3,21 +3,8 @@ use Rattle.std.proofs.Math.Nat.{sub_self}
 use Rattle.bitvec_store.specs.WidthLaws.{width_some}
 use Rattle.bitvec_cells.specs.WalkLaws.{touched-none}
 use Rattle.bitvec_query.proofs.LoadsLaws.{touched-passed}
-use Rattle.bitvec_query.proofs.PlacesLaws.{places-empty}
-use Rattle.bitvec_query.proofs.TakingLemmas.{first-below, first-taken, none-left}
+use Rattle.bitvec_query.proofs.TakingLemmas.{first-below, first-taken}
 use Rattle.bitvec_query.proofs.taking.take_first.Goals as goal
-
-pub overflow_add-index : goal.overflow_add-index
-overflow_add-index g c =
-    let found = rw c.range-left.ensures at c.in-Some.ensures.value in
-    let below = first-below g.C.Elem.BitStore.BITS g.O.BitOrder.at _ c.args.window c.args.rest.now c.args.want c.requires.window c.requires.inside _ found in
-    omega arith
-
-pub overflow_add-rest : goal.overflow_add-rest
-overflow_add-rest g c =
-    let found = rw c.range-left.ensures at c.in-Some.ensures.value in
-    let below = first-below g.C.Elem.BitStore.BITS g.O.BitOrder.at _ c.args.window c.args.rest.now c.args.want c.requires.window c.requires.inside _ found in
-    omega arith
 
 pub returns-in-Some : goal.returns-in-Some
 returns-in-Some g c =
@@ -31,11 +18,6 @@ returns-in-Some g c =
       gives = first-taken b g.O.BitOrder.at _ c.args.window c.args.rest.now c.args.want c.requires.window c.requires.inside _ found;
       reads = record { numbers = search rules; borrow = search rules; loads = omega arith; stores = search rules };
     }
-
-pub returns-in-None-clause-gives : goal.returns-in-None-clause-gives
-returns-in-None-clause-gives g c =
-    let found = rw c.range-left.ensures at c.in-None.ensures.value in
-    (none-left g.C.Elem.BitStore.BITS g.O.BitOrder.at _ c.args.window c.args.rest.now c.args.want c.requires.window c.requires.inside found, places-empty _ _ _)
 
 pub returns-in-None-clause-reads : goal.returns-in-None-clause-reads
 returns-in-None-clause-reads g c =

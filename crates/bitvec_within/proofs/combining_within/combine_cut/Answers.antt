@@ -1,24 +1,8 @@
 use Rattle.std.proofs.Common.{◌≡◌, Bool, nat_eq, not, refl}
 use Rattle.bitvec_store.specs.WidthLaws.{width_some}
-use Rattle.bitvec_within.proofs.Combining.{cut_windows, is_earlier, is_later, sides-combined, sides-inside}
+use Rattle.bitvec_within.proofs.Combining.{cut_windows, is_earlier, is_later, sides-combined}
 use Rattle.bitvec_within.proofs.combining_within.combine_cut.Goals.{then-this-ne0, else-this-ne0}
 use Rattle.bitvec_within.proofs.combining_within.combine_cut.Goals as goal
-
-pub combine_block_in-requires-clause-window : goal.combine_block_in-requires-clause-window
-combine_block_in-requires-clause-window g c =
-    let later : Bool = not (nat_eq g.row.LATER 0) in
-    let places : c.if-this-ne0.windows ≡ cut_windows later c.args.ranges =
-    elim c.if-this-ne0.branch [ then-this-ne0 w ↦ rw (w.windows-is, is_later _ w.if-this-ne0.true) refl | else-this-ne0 w ↦ rw (w.windows-is, is_earlier _ w.if-this-ne0.false) refl ] in
-    let inside = sides-inside _ _ _ g.T.BitStore.value _ _ _ c.args.ranges c.BITS.ensures c.requires.ranges c.max.ensures (rw c.max.ensures c.requires.edge) later c.requires.apart c.sides-left.ensures.parts in
-    rw places inside.0
-
-pub combine_block_in-requires-clause-right_window : goal.combine_block_in-requires-clause-right_window
-combine_block_in-requires-clause-right_window g c =
-    let later : Bool = not (nat_eq g.row.LATER 0) in
-    let places : c.if-this-ne0.windows ≡ cut_windows later c.args.ranges =
-    elim c.if-this-ne0.branch [ then-this-ne0 w ↦ rw (w.windows-is, is_later _ w.if-this-ne0.true) refl | else-this-ne0 w ↦ rw (w.windows-is, is_earlier _ w.if-this-ne0.false) refl ] in
-    let inside = sides-inside _ _ _ g.T.BitStore.value _ _ _ c.args.ranges c.BITS.ensures c.requires.ranges c.max.ensures (rw c.max.ensures c.requires.edge) later c.requires.apart c.sides-left.ensures.parts in
-    rw places inside.1
 
 pub returns : goal.returns
 returns g c =

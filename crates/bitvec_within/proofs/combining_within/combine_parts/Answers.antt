@@ -1,9 +1,6 @@
 use Rattle.std.proofs.Common.{arith}
-use Rattle.bitvec_within.proofs.Combining.{parts-combined, rest-apart}
+use Rattle.bitvec_within.proofs.Combining.{parts-combined}
 use Rattle.bitvec_within.proofs.combining_within.combine_parts.Goals as goal
-
-pub combine_cut-requires-clause-apart : goal.combine_cut-requires-clause-apart
-combine_cut-requires-clause-apart g c = rw c.split_at.ensures (rest-apart _ c.args.ranges c.min.result (omega arith) c.requires.apart)
 
 pub returns-then-rest-gt0 : goal.returns-then-rest-gt0
 returns-then-rest-gt0 g c = record {

@@ -1,9 +1,8 @@
-use Rattle.std.proofs.Common.{◌-◌, ◌∙◌, arith, sym, map}
+use Rattle.std.proofs.Common.{◌-◌, arith, sym, map}
 use Rattle.std.proofs.lemmas.List.{length-map}
 use Rattle.bitvec_base.specs.Memory.{list_in}
 use Rattle.bitvec_base.specs.WritesLaws.{Writes-start, length-list}
 use Rattle.bitvec_within.proofs.Rotated.{Writes-aside, back-held, rotated-all}
-use Rattle.bitvec_elements.proofs.StoreLemmas.{range-inside, range-kept}
 use Rattle.bitvec_within.proofs.Aside.{held-inside}
 use Rattle.bitvec_within.proofs.rotating.rotate_back.Goals as goal
 
@@ -13,22 +12,6 @@ returns-then-rest-eq0 g c =
     let fits = c.requires.bound in
     let none = c.if-rest-eq0.true in
     record { writes = Writes-start c.requires.window (rotated-all _ c.args.by (omega arith)) }
-
-pub copy_from_long_block_in-requires-clause-window : goal.copy_from_long_block_in-requires-clause-window
-copy_from_long_block_in-requires-clause-window g c = held-inside _ _ _ _ g.met.T.BitStore.width_law (length-map c.args.held.now g.T.BitStore.value) (omega arith) (omega arith)
-
-pub copy_from_long_block_in-requires-clause-right_window : goal.copy_from_long_block_in-requires-clause-right_window
-copy_from_long_block_in-requires-clause-right_window g c = range-inside _ _ c.args.window _ _ _ c.requires.window c.range.ensures (omega arith) (omega arith)
-
-pub copy_within_in-requires-clause-fits : goal.copy_within_in-requires-clause-fits
-copy_within_in-requires-clause-fits g c = record { order = omega arith; source = omega arith; room = omega arith }
-
-pub copy_from_long_block_in-requires-2-clause-window : goal.copy_from_long_block_in-requires-2-clause-window
-copy_from_long_block_in-requires-2-clause-window g c = range-kept _ _ _ c.args.window _ _ _ c.requires.window c.copy_within_in.ensures.writes.elements c.range-2.ensures (omega arith) (omega arith)
-
-pub copy_from_long_block_in-requires-2-clause-right_window : goal.copy_from_long_block_in-requires-2-clause-right_window
-copy_from_long_block_in-requires-2-clause-right_window g c = let long = length-map c.args.held.now g.T.BitStore.value in
-    held-inside _ _ _ _ g.met.T.BitStore.width_law (c.copy_from_long_block_in.ensures.writes.elements ∙ long) (omega arith) (omega arith)
 
 pub returns : goal.returns
 returns g c =

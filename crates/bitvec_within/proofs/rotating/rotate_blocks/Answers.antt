@@ -1,6 +1,6 @@
-use Rattle.std.proofs.Common.{◌≡◌, ◌+◌, ◌≤◌, length, map, arith, rules, sym, ◌∙◌, refl}
+use Rattle.std.proofs.Common.{◌≡◌, ◌+◌, ◌≤◌, length, map, arith, sym, ◌∙◌, refl}
 use Rattle.bitvec_base.specs.Memory.{list_in}
-use Rattle.bitvec_base.specs.WritesLaws.{HasWindow-kept, HasWindow-range, Writes-holds, Writes-is, Writes-nothing, Writes-then, length-list}
+use Rattle.bitvec_base.specs.WritesLaws.{HasWindow-kept, Writes-holds, Writes-is, Writes-nothing, Writes-then, length-list}
 use Rattle.bitvec_within.specs.Swaps.{swapped_within}
 use Rattle.bitvec_within.proofs.Rotated.{Writes-behind, behind-none, first-exchanged, last-exchanged, rotated_behind}
 use Rattle.bitvec_within.proofs.rotating.rotate_blocks.Goals.{then-count-left, else-count-left}
@@ -17,46 +17,6 @@ loop-count-init g c =
       writes = Writes-nothing b at now now c.args.window c.requires.window refl;
       rotated = behind-none (list_in b at now c.args.window) c.args.by;
     }
-
-pub overflow_add-done : goal.overflow_add-done
-overflow_add-done g c = let within = c.loop-count.invariant.within in search rules
-
-pub swap_ranges-requires-clause-order : goal.swap_ranges-requires-clause-order
-swap_ranges-requires-clause-order g c = let count = c.loop-count.invariant.shorter in omega arith
-
-pub swap_ranges-requires-clause-bound : goal.swap_ranges-requires-clause-bound
-swap_ranges-requires-clause-bound g c =
-    let within = c.loop-count.invariant.within in
-    let count = c.loop-count.invariant.shorter in
-    omega arith
-
-pub overflow_add-done-in-loop-count : goal.overflow_add-done-in-loop-count
-overflow_add-done-in-loop-count g c =
-    let within = c.loop-count.invariant.within in
-    let count = c.loop-count.invariant.shorter in
-    search rules
-
-pub overflow_sub-window-in-loop-count : goal.overflow_sub-window-in-loop-count
-overflow_sub-window-in-loop-count g c =
-    let within = c.loop-count.invariant.within in
-    let count = c.loop-count.invariant.shorter in
-    omega arith
-
-pub overflow_sub-window-in-loop-count-2 : goal.overflow_sub-window-in-loop-count-2
-overflow_sub-window-in-loop-count-2 g c =
-    let within = c.loop-count.invariant.within in
-    let count = c.loop-count.invariant.shorter in
-    elim c.if-count-left.branch [
-      | then-count-left w ↦ let less = w.if-count-left in let is = w.left-is in omega arith
-      | else-count-left w ↦ let most = w.if-count-left in let is = w.left-is in omega arith
-    ]
-
-pub loop-count-smaller : goal.loop-count-smaller
-loop-count-smaller g c =
-    let within = c.loop-count.invariant.within in
-    let count = c.loop-count.invariant.shorter in
-    let some = c.loop-count-test.true in
-    omega arith
 
 pub loop-count-preserved : goal.loop-count-preserved
 loop-count-preserved g c =
@@ -94,40 +54,6 @@ loop-count-preserved g c =
       writes = Writes-is b at before new window _ _ (Writes-then b at before now new window _ _ c.requires.window inv.writes swapped) (sym holds);
       rotated = rw holds (same ∙ inv.rotated);
     }
-
-pub after-rest-requires-clause-bound : goal.after-rest-requires-clause-bound
-after-rest-requires-clause-bound g c = let within = c.loop-count.invariant.within in omega arith
-
-pub rotate_front-requires-clause-window : goal.rotate_front-requires-clause-window
-rotate_front-requires-clause-window g c =
-    let inv = c.loop-count.invariant in
-    let within = inv.within in
-    rw c.after-rest.ensures (HasWindow-range _ _ c.args.window c.loop-count.done c.args.window.len (HasWindow-kept _ _ _ _ c.requires.window inv.writes.elements) (omega arith) (omega arith))
-
-pub rotate_front-requires-clause-bound : goal.rotate_front-requires-clause-bound
-rotate_front-requires-clause-bound g c = let within = c.loop-count.invariant.within in rw c.after-rest.ensures (omega arith)
-
-pub rotate_back-requires-clause-window : goal.rotate_back-requires-clause-window
-rotate_back-requires-clause-window g c =
-    let inv = c.loop-count.invariant in
-    let within = inv.within in
-    rw c.after-rest.ensures (HasWindow-range _ _ c.args.window c.loop-count.done c.args.window.len (HasWindow-kept _ _ _ _ c.requires.window inv.writes.elements) (omega arith) (omega arith))
-
-pub rotate_back-requires-clause-bound : goal.rotate_back-requires-clause-bound
-rotate_back-requires-clause-bound g c = let within = c.loop-count.invariant.within in rw c.after-rest.ensures (omega arith)
-
-pub rotate_back-requires-clause-room : goal.rotate_back-requires-clause-room
-rotate_back-requires-clause-room g c =
-    let shorter = c.loop-count.invariant.shorter in
-    let few = rw c.BITS.ensures at c.loop-count-test.false in
-    let other = c.if-count-left-2.false in
-    rw c.after-rest.ensures (omega arith)
-
-pub rotate_front-requires-clause-room : goal.rotate_front-requires-clause-room
-rotate_front-requires-clause-room g c =
-    let few = rw c.BITS.ensures at c.loop-count-test.false in
-    let is = c.if-count-left-2.true in
-    omega arith
 
 pub returns-then-count-left-2 : goal.returns-then-count-left-2
 returns-then-count-left-2 g c =

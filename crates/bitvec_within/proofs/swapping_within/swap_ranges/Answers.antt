@@ -1,29 +1,9 @@
-use Rattle.std.proofs.Common.{◌≡◌, ◌+◌, ◌-◌, ◌<◌, ◌∙◌, ap, arith, map, inl}
-use Rattle.std.proofs.lemmas.Nat.{mod_below}
+use Rattle.std.proofs.Common.{◌≡◌, ◌+◌, ◌-◌, ◌∙◌, ap, arith, map, inl}
 use Rattle.bitvec_base.specs.Memory.{list_in}
 use Rattle.bitvec_base.specs.WritesLaws.{Writes-next, length-list}
-use Rattle.bitvec_store.specs.WidthLaws.{width_some}
 use Rattle.bitvec_within.specs.Swaps.{swapped_within}
 use Rattle.bitvec_within.proofs.Swapped.{swapped-next}
 use Rattle.bitvec_within.proofs.swapping_within.swap_ranges.Goals as goal
-
-pub swap_few-requires-clause-bound : goal.swap_few-requires-clause-bound
-swap_few-requires-clause-bound g c =
-    let some : 0 < c.BITS.result = rw c.BITS.ensures (width_some _ g.met.T.BitStore.width_law) in
-    let below = mod_below (c.args.window.start + c.args.second) _ some in
-    omega arith
-
-pub swap_few-requires-2-clause-bound : goal.swap_few-requires-2-clause-bound
-swap_few-requires-2-clause-bound g c =
-    let some : 0 < c.BITS.result = rw c.BITS.ensures (width_some _ g.met.T.BitStore.width_law) in
-    let below = mod_below (c.args.window.start + c.args.second) _ some in
-    omega arith
-
-pub swap_sides-requires-clause-edge : goal.swap_sides-requires-clause-edge
-swap_sides-requires-clause-edge g c =
-    let some : 0 < c.BITS.result = rw c.BITS.ensures (width_some _ g.met.T.BitStore.width_law) in
-    let below = mod_below (c.args.window.start + c.args.second) _ some in
-    rw (← c.BITS.ensures) (omega arith)
 
 pub returns : goal.returns
 returns g c =
