@@ -112,10 +112,6 @@ module _ {T : Type 0} (b : ℕ) (at : ℕ → ℕ → ℕ) (value : T → ℕ) (
       zeros = holds;
     }
 
-  -- elements that stayed
-  pub same-around : (old new : List T) (start len : ℕ) → new ≡ old → KeepsAround b (shown b at value old start len) (shown b at value new start len)
-  same-around old new start len is = rw is (record { start = refl; front = refl; zeros = λ was. was })
-
   -- ---- bits added at the end
 
   module _ (old new : List T) (start len : ℕ) (list : List Bool) (inside : start + len ≤ b * length old)

@@ -15,6 +15,7 @@ use std::alloc::{AllocError, Allocator};
 impl<T: BitStore, O: BitOrder, A: Allocator> BitVec<T, O, A> {
     /// Keeps the first `len` bits, or adds as many of `bit` as there are `len` with them. An error where memory is refused,
     /// and the bits are as before then.
+    #[inline]
     pub fn resize(&mut self, len: usize, bit: bool) -> Result<(), AllocError>
         ensures bits { (owned self.new).bits ≡ (if is_ok result
             then take len (owned self.old).bits ++ replicate (len - length (owned self.old).bits) bit else (owned self.old).bits) }

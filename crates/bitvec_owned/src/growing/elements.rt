@@ -9,7 +9,7 @@ ghost use Rattle.bitvec_slice.specs.Views.{seen};
 
 use bitvec_base::{BitOrder, MAX_BITS, Part, Window};
 use bitvec_cells::{Exclusive, fill_part};
-use bitvec_domain::{replace_in, set_in};
+use bitvec_domain::set_in;
 use bitvec_elements::{copy_from_block_in, copy_from_in};
 use bitvec_engine::SliceOrder;
 use bitvec_slice::BitSlice;
@@ -18,6 +18,7 @@ use std::alloc::{AllocError, Allocator};
 
 /// Adds the elements that the bits up to `end` touch and that aren't there, with each bit `bit`. An error where memory is
 /// refused or they would have more than `MAX_BITS` bits; they are as before then.
+#[inline(always)]
 fn make_room<T: BitStore, A: Allocator>(
     elements: &mut Vec<T, A>,
     end: usize,
@@ -174,6 +175,7 @@ fn fill_up_to<T: BitStore, O: BitOrder>(elements: &mut [T], start: usize, end: u
 
 /// Adds so many of one bit behind the first `end`. An error where memory is refused and for more than `MAX_BITS` bits; the
 /// elements are as before then.
+#[inline(never)]
 pub(crate) fn put_same<T: BitStore, O: BitOrder, A: Allocator>(
     elements: &mut Vec<T, A>,
     end: usize,
@@ -196,6 +198,19 @@ pub(crate) fn put_same<T: BitStore, O: BitOrder, A: Allocator>(
     Ok(())
 }
 
+/// Drops the last element where the bits up to `end` don't touch it. They and one bit more touch all elements.
+fn drop_untouched<T: BitStore, A: Allocator>(elements: &mut Vec<T, A>, end: usize)
+    requires touched { vec_len elements.old ≡ div_ceil (end + 1) T.BITS }
+    ensures items { elements.new.items ≡ take (div_ceil end T.BITS) elements.old.items }
+    ensures len { vec_len elements.new ≡ div_ceil end T.BITS }
+    ensures capacity { vec_capacity elements.new ≡ vec_capacity elements.old }
+{
+    let width = T::BITS as usize;
+    if end % width == 0 {
+        elements.take_last();
+    }
+}
+
 /// Takes the bit at the place `last`, behind which no bit is.
 pub(crate) fn take_bit<T: BitStore, O: BitOrder, A: Allocator>(
     elements: &mut Vec<T, A>,
@@ -210,13 +225,11 @@ pub(crate) fn take_bit<T: BitStore, O: BitOrder, A: Allocator>(
     ensures capacity { vec_capacity elements.new ≡ vec_capacity elements.old }
 {
     let width = T::BITS as usize;
-    let window = Window {
-        start: last,
-        len: 1,
-    };
-    let bit = replace_in::<T, O>(elements.as_mut_slice(), window, 0, false);
-    elements.truncate(last.div_ceil(width));
-    bit
+    let element = elements[last / width];
+    let mask = O::select::<T>(last % width);
+    elements[last / width] = element.and(mask.not());
+    drop_untouched(elements, last);
+    element.and(mask).to_u128() != 0
 }
 
 /// Drops all bits from the place `end` on. Condition: the elements have as many.

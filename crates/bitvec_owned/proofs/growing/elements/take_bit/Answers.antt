@@ -1,21 +1,44 @@
-use Rattle.std.proofs.Common.{◌≡◌, ◌*◌, ◌<◌, ◌∙◌, false, ap, arith, length}
+use Rattle.std.proofs.Common.{◌≡◌, ◌*◌, ◌/◌, ◌%◌, ◌<◌, ◌^◌, ◌∙◌, arith, false, length, map, refl, slice_index, slice_set, sym}
 use Rattle.std.proofs.lemmas.Grind.{common_steps}
+use Rattle.std.proofs.lemmas.List.{get_or-map, length-map, length-set, map-set}
+use Rattle.std.proofs.lemmas.Nat.{div_below}
+use Rattle.bitvec_base.specs.Memory.{memory_bits, place_bit}
+use Rattle.bitvec_base.specs.MemoryLaws.{get-memory_bits}
+use Rattle.bitvec_cells.proofs.BitLemmas.{tested}
+use Rattle.bitvec_cells.proofs.PartLemmas.{place-put}
+use Rattle.bitvec_cells.specs.Element.{put_mask}
 use Rattle.bitvec_store.specs.WidthLaws.{width_some}
-use Rattle.bitvec_base.specs.WindowLaws.{get-one}
-use Rattle.bitvec_owned.proofs.FrontLists.{one-set}
 use Rattle.bitvec_owned.proofs.Fronts.{taken}
-use Rattle.bitvec_owned.specs.WritesLaws.{refilled, same_length}
 use Rattle.bitvec_owned.proofs.growing.elements.take_bit.Goals as goal
 
 pub returns-clause-value : goal.returns-clause-value
-returns-clause-value g c = rw c.as_mut_slice.ensures.value at (c.replace_in-bit.ensures.value ∙ get-one _ c.args.last false)
+unfolding place_bit
+returns-clause-value g c =
+    let some = width_some _ g.met.T.BitStore.width_law in
+    let b = g.T.BitStore.BITS in
+    let old = c.args.elements.now.items in
+    let long = length-map old g.T.BitStore.value in
+    let below : c.args.last < b * length old = grind (arith, common_steps, some) in
+    let inside = div_below c.args.last b (length old) some (omega arith) in
+    let element = get_or-map g.T.BitStore.value old (c.args.last / b) c.index-element.result.now 0 inside in
+    rw (c.to_u128.ensures.number, c.and-2.ensures, c.select-mask.ensures, c.BITS-width.ensures)
+    (tested _ _ ∙ sym (get-memory_bits b g.O.BitOrder.at (map g.T.BitStore.value old) c.args.last false (rw long below)
+    ∙ rw (element, ← (rw c.BITS-width.ensures at c.index-element.ensures)) refl))
 
 pub returns-clause-left : goal.returns-clause-left
 returns-clause-left g c =
-    let writes = c.replace_in-bit.ensures.writes in
-    let one = one-set _ false writes.long in
-    let many : length c.replace_in-bit.new.elements ≡ length c.as_mut_slice.result.now = same_length g.T.BitStore.value _ _ writes.elements in
-    let fewer = rw (refilled c.replace_in-bit.new.elements c.args.elements.now.items c.args.elements.now.len (many ∙ c.as_mut_slice.ensures.len)) at c.truncate.ensures.items in
-    let below : c.args.last < g.T.BitStore.BITS * length c.args.elements.now.items = grind (arith, common_steps, width_some _ g.met.T.BitStore.width_law) in
-    taken _ _ _ (width_some _ g.met.T.BitStore.width_law) c.args.elements.now.items c.replace_in-bit.new.elements c.truncate.new.self.items c.args.last below
-    (rw (c.div_ceil.ensures, c.BITS-width.ensures) at fewer) (many ∙ ap length c.as_mut_slice.ensures.value) (rw (one, c.as_mut_slice.ensures.value) at writes.bits)
+    let width = g.met.T.BitStore.width_law in
+    let some = width_some _ width in
+    let b = g.T.BitStore.BITS in
+    let at = g.O.BitOrder.at in
+    let old = c.args.elements.now.items in
+    let xs = map g.T.BitStore.value old in
+    let long = length-map old g.T.BitStore.value in
+    let below : c.args.last < b * length old = grind (arith, common_steps, some) in
+    let inside = div_below c.args.last b (length old) some (omega arith) in
+    let element = get_or-map g.T.BitStore.value old (c.args.last / b) c.index-element.result.now 0 inside in
+    let cleared : g.T.BitStore.value c.and.result ≡ put_mask b (slice_index xs (c.args.last / b)) (2 ^ at b (c.args.last % b)) false =
+    rw (c.and.ensures, c.not.ensures, c.select-mask.ensures, c.BITS-width.ensures, element, ← (rw c.BITS-width.ensures at c.index-element.ensures)) refl in
+    let wrote : memory_bits b at (map g.T.BitStore.value (slice_set old (c.args.last / b) c.and.result)) ≡ _ =
+    rw (map-set g.T.BitStore.value old (c.args.last / b) c.and.result, cleared) (place-put b at width (g.met.O.BitOrder.permutes _ width) xs c.args.last false (rw long below)) in
+    taken _ _ _ some old _ c.drop_untouched.new.elements.items c.args.last below (rw c.BITS-width.ensures at c.drop_untouched.ensures.items) (length-set _ _ _) wrote
