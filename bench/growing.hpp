@@ -185,23 +185,23 @@ class GrowingPeers {
         return best;
     }
 
-  public:
-    explicit GrowingPeers(const Growth &growth) : growth(growth) {}
-
-    Best push() const {
-        auto round = [](auto &set, size_t i) { return set.push(i), 0; };
+    template <class Round>
+    Best every(Round round) const {
         Best best = vector(round);
         time<BitsetRounds>(best, "dynamic_bitset", round);
         time<BitVecRounds>(best, "bit-vec", round);
         return best;
     }
 
+  public:
+    explicit GrowingPeers(const Growth &growth) : growth(growth) {}
+
+    Best push() const {
+        return every([](auto &set, size_t i) { return set.push(i), 0; });
+    }
+
     Best pop() const {
-        auto round = [](auto &set, size_t i) { return set.pop(i); };
-        Best best = vector(round);
-        time<BitsetRounds>(best, "dynamic_bitset", round);
-        time<BitVecRounds>(best, "bit-vec", round);
-        return best;
+        return every([](auto &set, size_t i) { return set.pop(i); });
     }
 
     Best extend() const {
@@ -233,10 +233,6 @@ class GrowingPeers {
     }
 
     Best resize() const {
-        auto round = [](auto &set, size_t i) { return set.resize(i), 0; };
-        Best best = vector(round);
-        time<BitsetRounds>(best, "dynamic_bitset", round);
-        time<BitVecRounds>(best, "bit-vec", round);
-        return best;
+        return every([](auto &set, size_t i) { return set.resize(i), 0; });
     }
 };
