@@ -2,7 +2,7 @@
 use Rattle.std.specs.Prelude.{ℕ, ◌-◌, List, length, map}
 use Rattle.std.specs.List.{range_with_len}
 use Rattle.std.specs.declared.ops.Range.{Range}
-use Rattle.bitvec_cutting.specs.Cutting.{back_chunk, chunk, chunk_count, cut, whole_chunk, whole_count, window, window_count}
+use Rattle.bitvec_cutting.specs.Cutting.{chunk, chunk_count, cut, window, window_count}
 
 -- the pieces with the numbers from `front` up to, without, `back`
 unfoldable pub walk : {X : Type 0} → (ℕ → X) → ℕ → ℕ → List X
@@ -18,12 +18,3 @@ module _ {X : Type 0} (size : ℕ) where
 
   abbrev pub chunks_of : List X → List (List X)
   chunks_of = cut_all (chunk_count size) (chunk size)
-
-  abbrev pub whole_chunks_of : List X → List (List X)
-  whole_chunks_of = cut_all (whole_count size) (whole_chunk size)
-
-  abbrev pub back_chunks_of : List X → List (List X)
-  back_chunks_of = cut_all (chunk_count size) (back_chunk size)
-
-  abbrev pub whole_back_chunks_of : List X → List (List X)
-  whole_back_chunks_of = cut_all (whole_count size) (back_chunk size)

@@ -67,7 +67,8 @@ pub fn load_element_after<O: WordOrder, C: CellsRead>(
     (joined::<O, C::Elem>(first, second, skip), second)
 }
 
-/// [`load_element`] of a window that may be empty, without the last element.
+/// An element that begins with the bits of a window of at most an element's width, which may be empty. Condition: the
+/// memory has at most `MAX_BITS` bits, and the window lies in it. It loads each element that the window touches once.
 pub fn load_short<O: WordOrder, C: CellsRead>(cells: &mut C, window: Window) -> C::Elem
     requires window { HasWindow C.Elem.BITS (C.numbers cells.old) window }
     requires bound { window.len ≤ C.Elem.BITS }
