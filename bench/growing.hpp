@@ -6,6 +6,8 @@
 #include "peers.hpp"
 #include <cstddef>
 #include <cstdint>
+#include <functional>
+#include <limits>
 #include <memory>
 #include <string>
 #include <vector>
@@ -167,72 +169,73 @@ class BitVecRounds {
     void resize(size_t round) { bit_vec_resize(bits, growth.len, growth.front, round); }
 };
 
-// How long the round of a call takes of each set that has it. Each set begins anew.
+// A peer that takes its turns, and the least time of a call in any of them, in nanoseconds.
+struct Rival {
+    std::string name;
+    std::function<double()> turn;
+    double least = std::numeric_limits<double>::infinity();
+
+    void take_turn() { least = std::min(least, turn()); }
+};
+
+// The sets that have a call, each with its rounds of it.
 class GrowingPeers {
     const Growth &growth;
 
     template <class Rounds, class Round>
-    void time(Best &best, const char *peer, Round round) const {
-        Rounds rounds(growth);
-        size_t number = 0;
-        best.try_peer(peer, [&] { keep(round(rounds, number++)); });
+    Rival rival(const char *name, Round round) const {
+        auto rounds = std::make_shared<Rounds>(growth);
+        auto call = [=, number = size_t(0)]() mutable { keep(round(*rounds, number++)); };
+        const size_t calls = calls_of_a_round(call);
+        return {name, [=]() mutable { return time_calls(call, calls) / double(calls); }};
     }
 
     template <class Round>
-    Best vector(Round round) const {
-        Best best;
-        time<VectorRounds>(best, "vector<bool>", round);
-        return best;
+    Rival vector(Round round) const {
+        return rival<VectorRounds>("vector<bool>", round);
     }
 
     template <class Round>
-    Best every(Round round) const {
-        Best best = vector(round);
-        time<BitsetRounds>(best, "dynamic_bitset", round);
-        time<BitVecRounds>(best, "bit-vec", round);
-        return best;
+    std::vector<Rival> every(Round round) const {
+        return {vector(round), rival<BitsetRounds>("dynamic_bitset", round), rival<BitVecRounds>("bit-vec", round)};
     }
 
   public:
     explicit GrowingPeers(const Growth &growth) : growth(growth) {}
 
-    Best push() const {
+    std::vector<Rival> push() const {
         return every([](auto &set, size_t i) { return set.push(i), 0; });
     }
 
-    Best pop() const {
+    std::vector<Rival> pop() const {
         return every([](auto &set, size_t i) { return set.pop(i); });
     }
 
-    Best extend() const {
+    std::vector<Rival> extend() const {
         auto round = [](auto &set, size_t i) { return set.extend(i), 0; };
-        Best best = vector(round);
-        time<BitVecRounds>(best, "bit-vec", round);
-        return best;
+        return {vector(round), rival<BitVecRounds>("bit-vec", round)};
     }
 
-    Best extend_from_bitslice() const {
-        Best best = vector([](auto &set, size_t i) { return set.extend_from_bitslice(i); });
-        auto round = [](auto &set, size_t i) { return set.append(i), 0; };
-        time<BitsetRounds>(best, "dynamic_bitset", round);
-        time<BitVecRounds>(best, "bit-vec", round);
-        return best;
+    std::vector<Rival> extend_from_bitslice() const {
+        auto append = [](auto &set, size_t i) { return set.append(i), 0; };
+        return {vector([](auto &set, size_t i) { return set.extend_from_bitslice(i); }),
+                rival<BitsetRounds>("dynamic_bitset", append), rival<BitVecRounds>("bit-vec", append)};
     }
 
-    Best insert_first() const {
-        return vector([](auto &set, size_t i) { return set.insert_first(i); });
+    std::vector<Rival> insert_first() const {
+        return {vector([](auto &set, size_t i) { return set.insert_first(i); })};
     }
-    Best insert_middle() const {
-        return vector([](auto &set, size_t i) { return set.insert_middle(i); });
+    std::vector<Rival> insert_middle() const {
+        return {vector([](auto &set, size_t i) { return set.insert_middle(i); })};
     }
-    Best remove_first() const {
-        return vector([](auto &set, size_t i) { return set.remove_first(i); });
+    std::vector<Rival> remove_first() const {
+        return {vector([](auto &set, size_t i) { return set.remove_first(i); })};
     }
-    Best remove_middle() const {
-        return vector([](auto &set, size_t i) { return set.remove_middle(i); });
+    std::vector<Rival> remove_middle() const {
+        return {vector([](auto &set, size_t i) { return set.remove_middle(i); })};
     }
 
-    Best resize() const {
+    std::vector<Rival> resize() const {
         return every([](auto &set, size_t i) { return set.resize(i), 0; });
     }
 };

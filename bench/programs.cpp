@@ -67,15 +67,20 @@ static std::pair<double, std::string> run(const char *program, const Task &task,
     return {taken, said};
 }
 
-// The times of one call of each task in nanoseconds: of runs of `times` calls and of none, the best of 7 each. The tasks take
-// turns.
-static std::vector<double> time_by_turns(const char *program, const std::vector<Task> &tasks, size_t times) {
+// The times of one call of each task in nanoseconds: of runs of `times` calls and of none, the best of so many each. The tasks
+// take turns, and then the peers.
+static std::vector<double> time_by_turns(const char *program, const std::vector<Task> &tasks, size_t times, int turns = 7,
+                                         std::vector<Rival> *peers = nullptr) {
     std::vector<double> none(tasks.size(), std::numeric_limits<double>::infinity()), all = none;
-    for (int round = 0; round < 7; ++round)
+    for (int turn = 0; turn < turns; ++turn) {
         for (size_t i = 0; i < tasks.size(); ++i) {
             none[i] = std::min(none[i], run(program, tasks[i], 0).first);
             all[i] = std::min(all[i], run(program, tasks[i], times).first);
         }
+        if (peers)
+            for (Rival &peer : *peers)
+                peer.take_turn();
+    }
     for (size_t i = 0; i < tasks.size(); ++i)
         all[i] = 1e9 * (all[i] - none[i]) / double(times);
     return all;
@@ -345,35 +350,41 @@ static void within(const char *program) {
 }
 
 // A call that adds bits to a sequence or takes some: the round of each peer that has it and of the program, of so many bits
-// behind others. A time is given by so many parts of a round. The first rounds have the sum of those on a `std::vector<bool>`.
+// behind others, by turns. A time is given by so many parts of a round. The first rounds have the sum of those on a
+// `std::vector<bool>`.
 template <class Round>
-static void grow(const char *program, const char *operation, const Growth &growth, size_t parts, size_t times, const Best &best,
-                 Round round) {
+static void grow(const char *program, const char *operation, const Growth &growth, size_t parts, size_t times,
+                 std::vector<Rival> peers, Round round) {
     const std::string front = std::to_string(growth.front), len = std::to_string(growth.len);
-    std::printf("| %s | %s | %s |", operation, len.c_str(), front.c_str());
-    double least = std::numeric_limits<double>::infinity();
+    std::vector<Task> tasks;
     for (const char *order : {"lsb0", "msb0"})
         for (size_t width : {8, 64}) {
-            const Task task{operation, {width}, {order, "0", front, len}};
+            tasks.push_back({operation, {width}, {order, "0", front, len}});
             VectorRounds checked(growth);
             size_t sum = 0;
             for (size_t i = 0; i < 5; ++i)
                 sum += round(checked, i);
-            check(program, task, 5, sum + checked.ones_left());
-            const double taken = time_runs(program, task, times);
-            std::printf(" %.3g |", taken / double(parts));
-            least = std::min(least, best.nanoseconds / taken);
+            check(program, tasks.back(), 5, sum + checked.ones_left());
         }
-    for (const char *peer : {"vector<bool>", "dynamic_bitset", "bit-vec"})
-        if (const auto it = best.all.find(peer); it != best.all.end())
-            std::printf(" %.3g |", it->second / double(parts));
-        else
+    const std::vector<double> taken = time_by_turns(program, tasks, times, 15, &peers);
+    std::printf("| %s | %s | %s |", operation, len.c_str(), front.c_str());
+    for (const double time : taken)
+        std::printf(" %.3g |", time / double(parts));
+    double best = std::numeric_limits<double>::infinity();
+    for (const char *name : {"vector<bool>", "dynamic_bitset", "bit-vec"}) {
+        const auto peer = std::find_if(peers.begin(), peers.end(), [&](const Rival &it) { return it.name == name; });
+        if (peer == peers.end()) {
             std::printf(" |");
-    std::printf(" %.3g |\n", least);
+            continue;
+        }
+        std::printf(" %.3g |", peer->least / double(parts));
+        best = std::min(best, peer->least);
+    }
+    std::printf(" %.3g |\n", best / *std::max_element(taken.begin(), taken.end()));
 }
 
 static void growing(const char *program) {
-    rounds = {7, 20e6, 1e9};
+    rounds = {15, 10e6, 1e9};
     std::printf("\n### Sequences that get more bits or fewer, in ns: of `push`, `pop` and `extend` a bit, of the others a call\n\n"
                 "| operation | bits | behind | u8 Lsb0 | u64 Lsb0 | u8 Msb0 | u64 Msb0 | `vector<bool>` | `dynamic_bitset` | `bit-vec` | "
                 "slowest / best peer |\n|---|---|---|---|---|---|---|---|---|---|---|\n");

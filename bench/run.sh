@@ -26,6 +26,11 @@ mkdir -p out
 (cd ../crates/sieve && rt run -- count 0) >/dev/null
 (cd ../crates/bitmatrix && rt run -- chain 0) >/dev/null
 make -s -C ../bindings wheel PYTHON=/usr/bin/python3 >&2
+mkdir -p out/proved
+./proved.py bitvec_c out/proved/libbitvec_c.a >&2
+for program in bitvec_times sieve bitmatrix; do
+    ./proved.py "$program" "out/proved/$program" >&2
+done
 /usr/bin/python3 -m zipfile -e ../bindings/out/fehimbary-*.whl out/python
 
 # rust NAME KIND SOURCE FLAGS..: compiles one crate of the peers
@@ -33,19 +38,25 @@ rust() {
     name=$1 kind=$2 source=$3
     shift 3
     rustc --crate-name "$name" --crate-type "$kind" --out-dir out \
-        -C opt-level=3 -C "target-cpu=$processor" -C panic=abort --cap-lints allow "$@" "$source"
+        -C opt-level=3 -C "target-cpu=$processor" -C llvm-args=-x86-branches-within-32B-boundaries \
+        -C panic=abort --cap-lints allow "$@" "$source"
 }
 rust fixedbitset rlib "$registry"/fixedbitset-*/src/lib.rs --edition 2018 --cfg 'feature="std"'
 rust bit_vec rlib "$registry"/bit-vec-*/src/lib.rs --edition 2018 --cfg 'feature="std"'
 rust peers staticlib peers.rs --edition 2021 \
     --extern fixedbitset=out/libfixedbitset.rlib --extern bit_vec=out/libbit_vec.rlib
 
+# cpp OUT WORDS..: compiles one program of the benchmark
+cpp() {
+    made=$1
+    shift
+    g++ -std=c++17 -O3 "-march=$processor" -Wa,-mbranches-within-32B-boundaries -Wall -Wextra "$@" -o "out/$made"
+}
 # gcc takes the lists of checks.hpp for ones that could be as long as the memory
-g++ -std=c++17 -O3 "-march=$processor" -Wall -Wextra -Wno-stringop-overflow driver.cpp \
-    ../crates/bitvec_c/out/libbitvec_c.a out/libpeers.a -lpthread -ldl -o out/driver
-g++ -std=c++17 -O3 "-march=$processor" -Wall -Wextra programs.cpp out/libpeers.a -lpthread -ldl -o out/programs
-g++ -std=c++17 -O3 "-march=$processor" -Wall -Wextra sieve.cpp -o out/sieve
-g++ -std=c++17 -O3 "-march=$processor" -Wall -Wextra closure.cpp -o out/closure
+cpp driver -Wno-stringop-overflow driver.cpp out/proved/libbitvec_c.a out/libpeers.a -lpthread -ldl
+cpp programs programs.cpp out/libpeers.a -lpthread -ldl
+cpp sieve sieve.cpp
+cpp closure closure.cpp
 
 out/driver plot | python3 plot.py > speeds.svg
 {
@@ -56,12 +67,13 @@ out/driver plot | python3 plot.py > speeds.svg
     echo "- machine: $(lscpu | sed -n 's/^Model name: *//p'), $(nproc) processors"
     echo "- kit: $(rt version)"
     echo "- compilers: $(g++ --version | head -n 1), -O3 -march=$processor; $(rustc --version), -C opt-level=3 -C target-cpu=$processor"
+    echo "- jumps: none crosses a multiple of 32 bytes or ends at one, in the library and its peers"
     echo "- load at the start: $(cut -d ' ' -f 1 /proc/loadavg)"
     echo
     out/driver
-    out/programs ../crates/bitvec_times/out/bitvec_times
-    out/sieve ../crates/sieve/out/sieve
-    out/closure ../crates/bitmatrix/out/bitmatrix
+    out/programs out/proved/bitvec_times
+    out/sieve out/proved/sieve
+    out/closure out/proved/bitmatrix
     echo
     PYTHONPATH=out/python /usr/bin/python3 beside_bitarray.py
 } > out/results.md

@@ -29,13 +29,20 @@ double time_calls(Call &call, size_t calls) {
     return std::chrono::duration<double, std::nano>(std::chrono::steady_clock::now() - begin).count();
 }
 
+// How many calls take as long as a round.
+template <class Call>
+size_t calls_of_a_round(Call &call) {
+    size_t calls = 1;
+    while (time_calls(call, calls) < rounds.nanoseconds)
+        calls *= 2;
+    return calls;
+}
+
 // The time of one call, in nanoseconds: the best of so many rounds, each of as many calls as take so long; of fewer rounds
 // where these take longer in all.
 template <class Call>
 double time_call(Call call) {
-    size_t calls = 1;
-    while (time_calls(call, calls) < rounds.nanoseconds)
-        calls *= 2;
+    const size_t calls = calls_of_a_round(call);
     double best = std::numeric_limits<double>::infinity();
     double total = 0;
     for (int round = 0; round < rounds.count && total < rounds.most; ++round) {

@@ -1,0 +1,67 @@
+#!/usr/bin/env python3
+"""in_short.py: writes the table "In short" of README.md by RESULTS.md, and prints how many rows are as fast as a peer, and which are not."""
+import pathlib
+import re
+
+HERE = pathlib.Path(__file__).resolve().parent
+NAMES = {
+    "copy": "copy", "or": "`\\|=`", "swap": "exchange", "equality": "`==`", "copy_within": "copy within", "shift_start": "shift",
+    "rotate_left": "rotation", "reverse": "reversal", "fill": "fill", "invert": "`!`", "count_ones": "count", "first_one": "search of zeros",
+}
+ELEMENTS = ["u64 Lsb0", "u64 Msb0", "u8 Lsb0", "u8 Msb0"]
+SHIFTED = {"u64": 29, "u8": 3}
+# What a row needs of the speed of its fastest peer.
+WANTED = 0.7
+
+
+def cells_of(text, head):
+    """The cells of the table under a heading, a list for each row."""
+    part = re.search(rf"^### {head}\n(.*?)(?=^### )", text, re.M | re.S)[1]
+    lines = [it for it in part.splitlines() if it.startswith("| ") and not it.startswith("| operation")]
+    return [[cell.strip() for cell in re.split(r"(?<!\\)\|", it)[1:-1]] for it in lines]
+
+
+def through_c(text):
+    """Rows of 2^20 bits: the operation, the elements, the phase, and the speed beside the fastest peer and a loop."""
+    return [(*row[:3], row[8], row[9]) for row in cells_of(text, "1048576 bits")]
+
+
+def of_views(text):
+    """Rows of 2^10 bits: the operation, the elements, the phase, and the speed beside the fastest peer."""
+    every = [f"{width} {order}" for order in ("Lsb0", "Msb0") for width in ("u8", "u16", "u64")]
+    rows = cells_of(text, "Windows of 1024 bits of views, in bits per ns")
+    return [(row[0], it, row[1], f"{float(speed) / float(row[8]):.3g}") for row in rows for it, speed in zip(every, row[2:8])]
+
+
+def is_shifted(elements, phase):
+    """Whether a phase is that of the columns `shifted`; none where it is of neither."""
+    width, by = int(elements.split()[0][1:]), int(re.search(r"\d+$", phase)[0])
+    if phase.startswith(str(SHIFTED.get(f"u{width}"))) and "," in phase:
+        return None
+    return by % width == SHIFTED.get(f"u{width}") if by % width else False
+
+
+def table(rows):
+    """The table of README.md."""
+    heads = ELEMENTS + [f"{it}, shifted" for it in ELEMENTS]
+    lines = ["| operation | " + " | ".join(heads) + " |", "|" + "---|" * (len(heads) + 1)]
+    for operation, name in NAMES.items():
+        found = {(elements, is_shifted(elements, phase)): loop for it, elements, phase, _, loop in rows if it == operation}
+        cells = [found[elements, shifted] for shifted in (False, True) for elements in ELEMENTS]
+        lines.append(f"| {name} | " + " | ".join(cells) + " |")
+    return "\n".join(lines)
+
+
+def main():
+    text, readme = (HERE / "RESULTS.md").read_text(), HERE / "README.md"
+    old = readme.read_text()
+    readme.write_text(re.sub(r"^\| operation \| u64 Lsb0.*?(?=\n\n)", lambda _: table(through_c(text)), old, count=1, flags=re.M | re.S))
+    for bits, rows in (("2^20", [it[:4] for it in through_c(text) if it[3]]), ("2^10", of_views(text))):
+        slow = [it for it in rows if float(it[3]) < WANTED]
+        print(f"{bits} bits: {len(rows) - len(slow)} of {len(rows)} rows have at least {WANTED} of the speed of the fastest peer, but for")
+        for row in slow:
+            print("  " + ", ".join(row))
+
+
+if __name__ == "__main__":
+    main()
