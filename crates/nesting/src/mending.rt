@@ -1,7 +1,7 @@
 //! Texts with the brackets that they lack.
-ghost use Rattle.std.specs.Prelude.{◌≡◌, ◌≢◌, [], ◌∷◌, ◌++◌, IfOk, IsErrOf, None, OnOk, Some, drop, false, length, map, replicate, take};
+ghost use Rattle.std.specs.Prelude.{◌≡◌, ◌≢◌, ◌⊎◌, [], ◌∷◌, ◌++◌, IfErr, IfOk, None, OnOk, Some, drop, false, length, map, replicate, take};
 ghost use Rattle.nesting.specs.Brackets.{IsNested, KeepsFront, closer, next, next_mended, open_after, open_mended, without_closers};
-ghost use Rattle.nesting.specs.declared.fault.Fault.TheVariants.{Stray};
+ghost use Rattle.nesting.specs.declared.fault.Fault.TheVariants.{Memory, Stray};
 
 use crate::fault::Fault;
 use crate::marks::Marks;
@@ -23,7 +23,7 @@ fn follow(marks: &mut Marks, byte: u8) -> Result<usize, Fault>
     ensures followed { IfOk result (λ groups. next (Some (drop groups marks.old)) byte ≡ Some marks.new) }
     ensures least { IfOk result (λ groups. next (Some marks.old) byte ≢ None → groups ≡ 0) }
     ensures mended { OnOk result (next_mended (Some marks.old) byte ≡ Some marks.new) }
-    ensures stray { IsErrOf result Stray → next_mended (Some marks.old) byte ≡ None }
+    ensures fault { IfErr result (λ fault. (fault ≡ Memory) ⊎ ((fault ≡ Stray) × (next_mended (Some marks.old) byte ≡ None))) }
 {
     match byte {
         b'(' => {
@@ -54,7 +54,7 @@ fn read(byte: u8, marks: &mut Marks, text: &mut Vec<u8>) -> Result<(), Fault>
     ensures kept { OnOk result (without_closers text.new.items ≡ without_closers (text.old.items ++ byte ∷ [])) }
     ensures same { OnOk result (next (Some marks.old) byte ≢ None → text.new.items ≡ text.old.items ++ byte ∷ []) }
     ensures mended { OnOk result (next_mended (Some marks.old) byte ≡ Some marks.new) }
-    ensures stray { IsErrOf result Stray → next_mended (Some marks.old) byte ≡ None }
+    ensures fault { IfErr result (λ fault. (fault ≡ Memory) ⊎ ((fault ≡ Stray) × (next_mended (Some marks.old) byte ≡ None))) }
 {
     let groups = follow(marks, byte)?;
     add(text, b')', groups)?;
@@ -89,7 +89,7 @@ pub fn mended(alloc: Global, text: &[u8]) -> Result<Vec<u8>, Fault>
     ensures front { IfOk result (λ mended. KeepsFront text.now mended.items) }
     ensures same { IfOk result (λ mended. IsNested text.now → mended.items ≡ text.now) }
     ensures mendable { OnOk result (open_mended text.now ≢ None) }
-    ensures stray { IsErrOf result Stray → open_mended text.now ≡ None }
+    ensures fault { IfErr result (λ fault. (fault ≡ Memory) ⊎ ((fault ≡ Stray) × (open_mended text.now ≡ None))) }
 {
     let mut marks = Marks::new(alloc);
     let mut mended = Vec::new(alloc);
