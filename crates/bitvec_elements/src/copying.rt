@@ -125,7 +125,7 @@ fn copy_parted_in<T: BitStore, O: SliceOrder>(left: &mut [T], to: Window, right:
     O::block_copy::<Exclusive<T>, Shared<T>>(&mut left, to, &mut right, from);
 }
 
-/// [`copy_from_block_in`] of windows of at most 64 bits, as a word.
+/// [`copy_from_block_in`] of windows of at most 64 bits, as an element or a word.
 #[inline(always)]
 fn copy_few<W: WordOrder, T: BitStore>(left: &mut [T], to: Window, right: &[T], from: Window)
     requires span { HasSpan T.BITS (map T.value left.old) (map T.value right.now) to from }

@@ -8,8 +8,8 @@ use bitvec_cells::Shared;
 use bitvec_store::BitStore;
 use bitvec_words::{WORD_BITS, WordOrder, count};
 
-/// How many bits of a window are 1; at most 64 bits go as a word. Condition: the memory has at most
-/// `MAX_BITS` bits, and the window lies in it.
+/// How many bits of a window are 1. At most 64 bits go as a word under an order that runs from one end
+/// of an element to the other. Condition: the memory has at most `MAX_BITS` bits, and the window lies in it.
 #[tactic(auto, using(crate::proofs::Directions::by_direction))]
 #[inline(always)]
 pub fn count_in<T: BitStore, O: BitOrder>(elements: &[T], window: Window) -> usize

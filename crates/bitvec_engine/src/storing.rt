@@ -1,6 +1,6 @@
 //! Up to 64 bits of a window stored as a word.
 ghost use Rattle.std.specs.Prelude.{◌≡◌, ◌≢◌, ◌%◌, ◌<◌, ◌≤◌, take};
-ghost use Rattle.bitvec_base.specs.Memory.{HasWindow, Writes, element_bits, list_in};
+ghost use Rattle.bitvec_base.specs.Memory.{HasWindow, Writes, element_bits};
 ghost use Rattle.bitvec_cells.specs.Access.{CostsAtMost};
 ghost use Rattle.bitvec_cells.specs.Cost.{fill_loads, touched_count};
 

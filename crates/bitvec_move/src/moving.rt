@@ -1,7 +1,7 @@
 //! Bits moved to another place of the same memory. Whole elements are moved from the end at which none
 //! is written over before it is read: the last ones first where `LATER`, which says that the place
 //! begins no earlier, else the first ones first, and it begins no later.
-ghost use Rattle.std.specs.Prelude.{if◌then◌else◌, ◌≡◌, ◌+◌, ◌*◌, ◌%◌, ◌<◌, ◌≤◌, slice_index};
+ghost use Rattle.std.specs.Prelude.{if◌then◌else◌, ◌≡◌, ◌+◌, ◌*◌, ◌<◌, ◌≤◌, slice_index};
 ghost use Rattle.bitvec_base.specs.Spans.{HasSpan};
 ghost use Rattle.bitvec_cells.specs.Access.{Costs, CostsAtMost};
 ghost use Rattle.bitvec_cells.specs.Cost.{touched_count};

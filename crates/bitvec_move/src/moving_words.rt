@@ -47,7 +47,8 @@ pub(crate) fn shift_words<O: WordOrder, C: Cells, const LATER: bool>(cells: &mut
     store_elements::<O, C>(cells, moved.first + edge, held);
 }
 
-/// Where the word begins after which so many bytes of `count` are moved.
+/// The byte at which the word begins after which `done` bytes of `count` are moved. Condition: `done` is at least 8, and at
+/// most `count`.
 fn word_place<const LATER: bool>(done: usize, count: usize) -> usize
     requires word { 8 ≤ done }
     requires most { done ≤ count }
@@ -57,7 +58,8 @@ fn word_place<const LATER: bool>(done: usize, count: usize) -> usize
     if LATER { count - done } else { done - 8 }
 }
 
-/// The index in a word of the byte that is carried, and how far behind the word that is stored the next one is read.
+/// The bit of a word at which the byte that is carried begins, and how many bytes behind the word that is stored the next one is
+/// read.
 fn carried_place<const LATER: bool>() -> (usize, usize)
     ensures to { result.0 ≡ (if LATER then 0 else 56) }
     ensures ahead { result.1 ≡ (if LATER then 0 else 1) }

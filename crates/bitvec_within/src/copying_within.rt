@@ -1,13 +1,15 @@
 //! The bits of a window of a slice of elements copied to another place of it.
+#![tactic(auto, using(bitvec_elements::proofs::Directions::by_direction))]
+
 ghost use Rattle.std.specs.Prelude.{◌-◌, ◌≤◌, map};
 ghost use Rattle.bitvec_base.specs.Lists.{FitsWithin, copied_within};
 ghost use Rattle.bitvec_base.specs.Memory.{Edits, HasWindow};
 
-use crate::few::is_few;
-use bitvec_base::{Lsb0, Msb0, Window};
+use crate::few::{is_few, store_few_in};
+use bitvec_base::Window;
 use bitvec_cells::Exclusive;
-use bitvec_elements::few_word;
-use bitvec_engine::{Direction, SliceOrder, direction_of, store_few};
+use bitvec_elements::{few_word, return_by_direction};
+use bitvec_engine::SliceOrder;
 use bitvec_store::BitStore;
 use bitvec_words::WordOrder;
 use std::ops::Range;
@@ -27,11 +29,7 @@ pub fn copy_within_in<T: BitStore, O: SliceOrder>(
     ensures writes { Edits T.BITS O.at (map T.value elements.old) (map T.value elements.new) window (copied_within src.start src.end dest) }
 {
     if is_few::<T>(src.end - src.start) {
-        match direction_of::<O, T>() {
-            Direction::Up => return copy_within_few::<Lsb0, T>(elements, window, src, dest),
-            Direction::Down => return copy_within_few::<Msb0, T>(elements, window, src, dest),
-            Direction::Other => {}
-        }
+        return_by_direction!(O, T => copy_within_few::<_, T>(elements, window, src, dest));
     }
     let mut accessor = Exclusive::new(elements);
     O::block_copy_within::<Exclusive<T>>(&mut accessor, window, src.start, src.end, dest);
@@ -52,6 +50,5 @@ fn copy_within_few<W: WordOrder, T: BitStore>(
     let source = window.range(src.start, src.end);
     let target = window.range(dest, dest + (src.end - src.start));
     let word = few_word::<W, T>(&*elements, source);
-    let mut accessor = Exclusive::new(elements);
-    store_few::<W, Exclusive<T>>(&mut accessor, target, word);
+    store_few_in::<W, T>(elements, target, word);
 }

@@ -1,4 +1,4 @@
-//! Which windows are loaded and stored as a word.
+//! Which windows are loaded and stored as a word, and how such a one is stored.
 ghost use Rattle.std.specs.Prelude.{◌≡◌, ◌≤◌, ◌↔◌, ◌⊎◌, map, min, take, true};
 ghost use Rattle.bitvec_base.specs.Memory.{HasWindow, Writes, element_bits};
 
@@ -21,7 +21,7 @@ pub(crate) fn is_few<T: BitStore>(len: usize) -> bool
 /// Stores the first bits of a word to a window of a slice of elements. Conditions: the memory has at most `MAX_BITS`
 /// bits, and the window lies in it and has at most 64.
 #[inline(always)]
-pub(crate) fn store_word<W: WordOrder, T: BitStore>(elements: &mut [T], window: Window, word: u64)
+pub(crate) fn store_few_in<W: WordOrder, T: BitStore>(elements: &mut [T], window: Window, word: u64)
     requires window { HasWindow T.BITS (map T.value elements.old) window }
     requires few { window.len ≤ 64 }
     ensures writes { Writes T.BITS W.at (map T.value elements.old) (map T.value elements.new) window (take window.len (element_bits 64 W.at word)) }

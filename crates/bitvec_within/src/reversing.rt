@@ -4,7 +4,7 @@
 ghost use Rattle.std.specs.Prelude.{◌≤◌, map, reverse as reversal};
 ghost use Rattle.bitvec_base.specs.Memory.{Edits, HasWindow};
 
-use crate::few::{is_few, store_word};
+use crate::few::{is_few, store_few_in};
 use bitvec_base::Window;
 use bitvec_cells::Exclusive;
 use bitvec_elements::{few_word, return_by_direction};
@@ -35,5 +35,5 @@ fn reverse_few<W: WordOrder, T: BitStore>(elements: &mut [T], window: Window)
     let word = reversed::<W, u64>(few_word::<W, T>(&*elements, window));
     // the bits of the window are the last ones now
     let mirrored = moved::<W, u64, u64>(word, WORD_BITS - window.len, window.len, 0);
-    store_word::<W, T>(elements, window, mirrored);
+    store_few_in::<W, T>(elements, window, mirrored);
 }

@@ -7,7 +7,7 @@ ghost use Rattle.bitvec_base.specs.Memory.{Edits, HasWindow, element_bits};
 ghost use Rattle.bitvec_words.specs.ShortWindow.{padded};
 
 use crate::copying_within::copy_within_in;
-use crate::few::store_word;
+use crate::few::store_few_in;
 use crate::swapping_within::swap_ranges;
 use bitvec_base::Window;
 use bitvec_elements::{copy_from_long_block_in, few_word, return_by_direction};
@@ -48,7 +48,7 @@ fn rotate_few<W: WordOrder, T: BitStore>(elements: &mut [T], window: Window, by:
 {
     let word = few_word::<W, T>(&*elements, window);
     let rotated = rotated_word::<W>(word, window.len, by);
-    store_word::<W, T>(elements, window, rotated);
+    store_few_in::<W, T>(elements, window, rotated);
 }
 
 /// The word whose first `len` bits are those of `word` rotated so that the one at `by` comes first; the

@@ -5,7 +5,7 @@ ghost use Rattle.std.specs.Prelude.{◌≡◌, ◌%◌, ◌≤◌, ◌==◌, map
 ghost use Rattle.bitvec_base.specs.Lists.{shifted_end, shifted_start};
 ghost use Rattle.bitvec_base.specs.Memory.{Edits, HasWindow};
 
-use crate::few::{is_few, store_word};
+use crate::few::{is_few, store_few_in};
 use bitvec_base::Window;
 use bitvec_cells::Exclusive;
 use bitvec_elements::{few_word, return_by_direction};
@@ -15,8 +15,8 @@ use bitvec_words::{WORD_BITS, WordOrder, moved};
 
 /// Shifts the bits of a window towards its start, and zeros in at its end. Condition: the memory has at
 /// most `MAX_BITS` bits, the window lies in it, and `by` is at most the window's length. Under an order that
-/// runs from one end of an element to the other, few bits are shifted as a word, and so are the last bits
-/// where they are whole elements.
+/// runs from one end of an element to the other, few bits are shifted as a word. So are the last 64 of more
+/// where `by` is below 64 and the window ends with an element.
 pub fn shift_start_in<T: BitStore, O: SliceOrder>(elements: &mut [T], window: Window, by: usize)
     requires window { HasWindow T.BITS (map T.value elements.old) window }
     requires bound { by ≤ window.len }
@@ -28,7 +28,8 @@ pub fn shift_start_in<T: BitStore, O: SliceOrder>(elements: &mut [T], window: Wi
 }
 
 /// Shifts the bits of a window towards its end, and zeros in at its start. Condition: as for
-/// [`shift_start_in`]. The first bits are shifted as a word where they are whole elements.
+/// [`shift_start_in`], as are the bits that are shifted as a word, but for the first 64 where the window begins
+/// with an element.
 pub fn shift_end_in<T: BitStore, O: SliceOrder>(elements: &mut [T], window: Window, by: usize)
     requires window { HasWindow T.BITS (map T.value elements.old) window }
     requires bound { by ≤ window.len }
@@ -102,7 +103,7 @@ fn shift_start_few<W: WordOrder, T: BitStore>(elements: &mut [T], window: Window
 {
     let word = few_word::<W, T>(&*elements, window);
     let shifted = moved::<W, u64, u64>(word, by, window.len - by, 0);
-    store_word::<W, T>(elements, window, shifted);
+    store_few_in::<W, T>(elements, window, shifted);
 }
 
 /// [`shift_end_in`] of few bits, as a word.
@@ -115,5 +116,5 @@ fn shift_end_few<W: WordOrder, T: BitStore>(elements: &mut [T], window: Window, 
 {
     let word = few_word::<W, T>(&*elements, window);
     let shifted = moved::<W, u64, u64>(word, 0, window.len - by, by);
-    store_word::<W, T>(elements, window, shifted);
+    store_few_in::<W, T>(elements, window, shifted);
 }

@@ -82,8 +82,8 @@ pub fn load_short<O: WordOrder, C: CellsRead>(cells: &mut C, window: Window) -> 
     load_element::<O, C>(cells, window).0
 }
 
-/// A window of at most an element's width gets the first bits of an element, as many as it has; all other bits of the
-/// memory stay. Condition: the memory has at most `MAX_BITS` bits, and the window lies in it. It stores each element
+/// A window of at most an element's width gets as many of the first bits of an element as it has. All other bits of
+/// the memory stay. Condition: the memory has at most `MAX_BITS` bits, and the window lies in it. It stores each element
 /// that the window touches once, and loads each at most once.
 #[inline(always)]
 pub fn store_short<O: WordOrder, C: Cells>(cells: &mut C, window: Window, element: C::Elem)

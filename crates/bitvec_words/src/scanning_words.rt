@@ -149,7 +149,7 @@ fn first_in_block<O: WordOrder, C: CellsRead>(
     first_of_four::<O>(one, two, three, four, want)
 }
 
-/// The first of four words.
+/// The first place of a bit in four words, one after the other: None where all bits are the other one.
 #[inline(always)]
 fn first_of_four<O: BitOrder>(
     one: u64,

@@ -8,4 +8,4 @@ use Rattle.bitvec_within.proofs.rotating.rotate_few.Goals as goal
 pub returns : goal.returns
 returns g c =
     let long = length-list _ g.W.BitOrder.at _ _ c.requires.window in
-    record { writes = few-edited _ _ _ _ c.args.window (rotated_left c.args.by) _ _ c.requires.window c.few_word-word.ensures c.rotated_word-rotated.ensures (length-rotated_left c.args.by _ ∙ long) c.store_word.ensures.writes }
+    record { writes = few-edited _ _ _ _ c.args.window (rotated_left c.args.by) _ _ c.requires.window c.few_word-word.ensures c.rotated_word-rotated.ensures (length-rotated_left c.args.by _ ∙ long) c.store_few_in.ensures.writes }
