@@ -33,6 +33,7 @@ pub use Rattle.bitvec_domain.specs.Cuts
 pub use Rattle.bitvec_domain.specs.Parts
 pub use Rattle.bitvec_domain.specs.Values as DomainValues
 pub use Rattle.bitvec_within.specs.Swaps
+pub use Rattle.bitvec_within.specs.SwapsLaws
 pub use Rattle.bitvec_within.specs.Combined
 pub use Rattle.bitvec_within.specs.CombinedLaws
 pub use Rattle.bitvec_edit.specs.UndoLaws

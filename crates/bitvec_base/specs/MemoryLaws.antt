@@ -1,16 +1,16 @@
 -- Elements and the bits of a memory: reads and writes of an element are those of its bits.
 use Rattle.std.specs.Prelude.{◌≡◌, ◌≢◌, ℕ, ◌+◌, ◌-◌, ◌*◌, ◌/◌, ◌%◌, ◌^◌, ◌<◌, ◌≤◌, ◌⊎◌, ◌==◌, Bool, true, false, not, List, ◌++◌, length, map, replicate, slice_range, slice_set, slice_index, slice_index_or, bit_and, bit_or, bit_xor, refl, zero, suc}
 use Rattle.std.specs.Int.{bit_at}
-use Rattle.std.proofs.Common.{arith, rules, sym, ◌∙◌, ap, subst, ⊎_elim, inl, inr, length-append}
+use Rattle.std.proofs.Common.{arith, sym, ◌∙◌, ap, subst, ⊎_elim, inl, inr, length-append}
 use Rattle.std.proofs.Math.Nat.{add-mul, mul-add-mod_self_right, mul-le-mul_right}
 use Rattle.std.proofs.lemmas.Bool.{cases_lt, cases_order}
-use Rattle.std.proofs.lemmas.List.{same_lists, places, get_or-set_same, get_or-set_other, length-set, length-replicate, get_or-replicate, length-map, get_or-map}
+use Rattle.std.proofs.lemmas.List.{same_lists, get_or-set_same, get_or-set_other, length-set, length-replicate, get_or-replicate, length-map, get_or-map}
 use Rattle.std.proofs.lemmas.Nat.Bits.{bit_at_and, bit_at_or, bit_at_xor, bit_at-lt, and_pow}
 use Rattle.std.proofs.lemmas.List.FromFn.{length-map-range_with_len, get_or-map-range_with_len}
 use Rattle.std.proofs.lemmas.Nat.{div_below, mod_below, div-mul-add, mod-mul-add, row_fits, div-add-mod', and-not, pow_below, pow_pos}
 use Rattle.bitvec_base.specs.Memory.{place_bit, memory_bits, element_bits}
 use Rattle.bitvec_base.specs.Order.{Permutes, mask_of}
-use Rattle.bitvec_base.specs.SliceLaws.{range-all, range-join}
+use Rattle.bitvec_base.specs.SliceLaws.{range-all, range-join, range-of_front, range-of_rest}
 use Rattle.bitvec_base.specs.MaskLaws.{mask_of-lacks, mask_of-has, mask_of-below}
 use Rattle.bitvec_base.specs.Window.{IsWithin, write_at}
 use Rattle.bitvec_base.specs.declared.window.Window.{Window}
@@ -78,12 +78,6 @@ memory-range b at xs a e some order fits =
     ∙ sym (get-slice_range (memory_bits b at xs) (a * b) (e * b) k d (omega arith) ∙ get-memory_bits b at xs (a * b + k) d (omega arith) ∙ rw (at-row, mul-add-mod_self_right a b k, sym element) refl))
 
 -- the bits of two lists of elements, one after the other
-range-front : {X : Type 0} (front rest : List X) → slice_range (front ++ rest) 0 (length front) ≡ front
-range-front front rest = same_lists _ _ (search (rules, places)) (λ k d inside. grind (arith, places))
-
-range-rest : {X : Type 0} (front rest : List X) (n : ℕ) → n ≡ length (front ++ rest) → slice_range (front ++ rest) (length front) n ≡ rest
-range-rest front rest n all = same_lists _ _ (search (rules, places)) (λ k d inside. grind (arith, places))
-
 pub memory-append : (b : ℕ) (at : ℕ → ℕ → ℕ) (front rest : List ℕ) → 0 < b → memory_bits b at (front ++ rest) ≡ memory_bits b at front ++ memory_bits b at rest
 memory-append b at front rest some =
     let all = front ++ rest in
@@ -93,8 +87,8 @@ memory-append b at front rest some =
     let whole = length-memory_bits b at all in
     let product : n * b ≡ b * n = omega arith in
     sym (
-    ap (λ (l : List Bool). l ++ memory_bits b at rest) (ap (memory_bits b at) (sym (range-front front rest)) ∙ memory-range b at all 0 m some (omega arith) (omega arith))
-    ∙ ap (λ (l : List Bool). slice_range (memory_bits b at all) (0 * b) (m * b) ++ l) (ap (memory_bits b at) (sym (range-rest front rest n refl)) ∙ memory-range b at all m n some (omega arith) (omega arith))
+    ap (λ (l : List Bool). l ++ memory_bits b at rest) (ap (memory_bits b at) (sym (range-of_front front rest)) ∙ memory-range b at all 0 m some (omega arith) (omega arith))
+    ∙ ap (λ (l : List Bool). slice_range (memory_bits b at all) (0 * b) (m * b) ++ l) (ap (memory_bits b at) (sym (range-of_rest front rest)) ∙ memory-range b at all m n some (omega arith) (omega arith))
     ∙ range-join (memory_bits b at all) (0 * b) (m * b) (n * b) (omega arith) (rw sum (omega arith)) (omega arith)
     ∙ ap (λ (s : ℕ). slice_range (memory_bits b at all) s (n * b)) (let first : 0 * b ≡ 0 = omega arith in first)
     ∙ range-all (memory_bits b at all) (n * b) (omega arith))

@@ -21,6 +21,13 @@ range-to_end list a e h = same_lists _ _ (search (rules, places)) (λ k d inside
 pub range-rest : {X : Type 0} (list : List X) (a e : ℕ) → drop a (take e list) ≡ slice_range list a e
 range-rest list a e = same_lists _ _ (grind (arith, places)) (λ k d inside. grind (arith, places))
 
+-- the two parts of a list
+pub range-of_front : {X : Type 0} (front rest : List X) → slice_range (front ++ rest) 0 (length front) ≡ front
+range-of_front front rest = same_lists _ _ (search (rules, places)) (λ k d inside. grind (arith, places))
+
+pub range-of_rest : {X : Type 0} (front rest : List X) → slice_range (front ++ rest) (length front) (length (front ++ rest)) ≡ rest
+range-of_rest front rest = same_lists _ _ (search (rules, places)) (λ k d inside. grind (arith, places))
+
 -- a slice of one value, and with one value more behind or before it
 pub range-one : {X : Type 0} (list : List X) (i : ℕ) (d : X) → i < length list → slice_range list i (i + 1) ≡ slice_index_or list i d ∷ []
 range-one list i d within = same_lists _ _ (search (rules, places)) (λ k e inside. grind (arith, places))

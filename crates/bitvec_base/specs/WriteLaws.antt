@@ -1,8 +1,8 @@
 -- Laws of slices of a list and of writes into it.
 use Rattle.std.specs.Prelude.{◌≡◌, ℕ, ◌+◌, ◌-◌, ◌<◌, ◌≤◌, List, [], ◌∷◌, ◌++◌, length, take, drop, slice_range, slice_set, slice_index_or}
-use Rattle.std.proofs.Common.{arith, rules, sym, ◌∙◌, ap, length-take, length-drop, get_or-take, get_or-drop, add-one}
+use Rattle.std.proofs.Common.{arith, rules, sym, ◌∙◌, ap, append_assoc, length-append, length-take, length-drop, get_or-take, get_or-drop, add-one}
 use Rattle.std.proofs.Math.Seq.{drop-append-add, drop-append_seam}
-use Rattle.std.proofs.lemmas.List.{same_lists, places, set_split, take_at}
+use Rattle.std.proofs.lemmas.List.{length-take-le, same_lists, places, set_split, take_at}
 use Rattle.bitvec_base.specs.Window.{write_at}
 
 pub length-slice_range : {X : Type 0} (list : List X) (a e : ℕ) → e ≤ length list → length (slice_range list a e) ≡ e - a
@@ -111,3 +111,11 @@ drop-write_at list s new h =
     let long : length (take s list) ≡ s = omega (arith, length-take s list) in
     ap (λ (n : ℕ). drop (n + length new) (take s list ++ (new ++ rest))) (sym long)
     ∙ drop-append-add (take s list) (new ++ rest) (length new) ∙ drop-append_seam new rest
+
+-- what stands up to the end of a write
+pub take-written : {X : Type 0} (list : List X) (s n : ℕ) (new : List X) → s ≤ length list → n ≡ s + length new → take n (write_at list s new) ≡ take s list ++ new
+unfolding write_at
+take-written list s n new inside is =
+    let front = length-take-le s list inside in
+    let long : length (take s list ++ new) ≡ n = length-append (take s list) new ∙ omega arith in
+    rw (← append_assoc (take s list) new (drop (s + length new) list)) (take_at (take s list ++ new) (drop (s + length new) list) n long)

@@ -1,8 +1,7 @@
 -- Acts on two windows, the second of which may end before the first, by their whole elements and what is before and behind these.
-use Rattle.std.proofs.Common.{◌≡◌, ◌≢◌, ℕ, min, ◌+◌, ◌-◌, ◌*◌, ◌/◌, ◌%◌, ◌≤◌, ◌<◌, ◌==◌, Bool, true, false, List, ◌++◌, length, length-append, replicate, slice_index, refl, ap, arith, sym, ◌∙◌}
+use Rattle.std.proofs.Common.{◌≡◌, ◌≢◌, ℕ, min, ◌+◌, ◌-◌, ◌*◌, ◌/◌, ◌%◌, ◌≤◌, ◌<◌, ◌==◌, Bool, true, false, List, ◌++◌, length, slice_index, refl, ap, arith, sym, ◌∙◌}
 use Rattle.std.proofs.lemmas.Bool.Decides.{nat_tests}
 use Rattle.std.proofs.lemmas.Nat.{div-add-mod', mod-mul-add}
-use Rattle.std.proofs.lemmas.List.{length-replicate}
 use Rattle.bitvec_base.specs.declared.part.Part.{Part}
 use Rattle.bitvec_base.specs.declared.window.Window.{Window}
 use Rattle.bitvec_base.specs.Memory.{HasWindow, list_in}
@@ -12,6 +11,7 @@ use Rattle.bitvec_base.specs.WritesLaws.{length-list, list-join}
 use Rattle.bitvec_cells.specs.Cost.{touched_count}
 use Rattle.bitvec_cells.specs.WalkLaws.{first-place}
 use Rattle.bitvec_words.specs.Elements.{elements_window, elements_window_from}
+use Rattle.bitvec_words.specs.MovedLaws.{length-padded}
 use Rattle.bitvec_words.specs.ShortWindow.{padded}
 use Rattle.bitvec_words.specs.TouchedLaws.{apart_edge, head_edge, inside_element, touched-edge, touched-first, touched-inside, touched-after}
 use Rattle.bitvec_words.specs.WholeLaws.{HasWindow-part, touched-behind_from, window-same}
@@ -40,10 +40,6 @@ pub beside-join : (b : ℕ) (at : ℕ → ℕ → ℕ) (ys : List ℕ) (first re
     → right.len ≡ first.len + rest.len → n ≡ first.len + m → list_in b at ys first ++ padded m (list_in b at ys rest) ≡ padded n (list_in b at ys right)
 beside-join b at ys first rest right n m has start next len sum =
     padded-join n first.len m _ _ sum (length-list b at ys first (HasWindow-part b ys right first has (omega arith) (omega arith))) ∙ ap (padded n) (list-join b at ys first rest right has start next len)
-
-length-padded : (n : ℕ) (list : List Bool) → length list ≤ n → length (padded n list) ≡ n
-unfolding padded
-length-padded n list fits = omega (arith, length-append list (replicate (n - length list) false), length-replicate (n - length list) false)
 
 -- where the act stops behind the first bits, all are done
 pub beside-stop : {C S : Type 0} {b : ℕ} (numbers : C → List ℕ) (Done : (ℕ → ℕ → ℕ) → C → C → Window → List Bool → S → S → Type 0) {stopped : S → Bool}

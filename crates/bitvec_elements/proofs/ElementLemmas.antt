@@ -15,13 +15,11 @@ use Rattle.bitvec_base.specs.Spans.{HasSpan}
 use Rattle.bitvec_base.specs.Window.{window_of, write_at}
 use Rattle.bitvec_base.specs.WriteLaws.{length-slice_range, length-write_at}
 use Rattle.bitvec_base.specs.WritesLaws.{Writes-is, length-list}
-use Rattle.bitvec_words.specs.Elements.{elements_window, elements_window_from}
+use Rattle.bitvec_words.specs.Elements.{elements_window}
 use Rattle.bitvec_words.specs.FieldLaws.{Writes-none, element_of, list-part}
 use Rattle.bitvec_words.specs.WholeLaws.{HasWindow-part, Writes-same, elements-inside, list-same}
 use Rattle.bitvec_words.specs.WrittenLaws.{memory-write_at}
 use Rattle.bitvec_cells.specs.PutLaws.{part-numbers}
-use Rattle.bitvec_words.specs.WordLaws.{word_whole}
-use Rattle.bitvec_store.specs.Width.{IsWidth}
 
 -- whole elements from a window's first bit on lie in the memory
 whole-inside : (b : ℕ) (xs : List ℕ) (window : Window) (n : ℕ) → 0 < b → HasWindow b xs window → window.start % b ≡ 0 → n % b ≡ 0 → n ≤ window.len → window.start / b + n / b ≤ length xs
@@ -73,22 +71,6 @@ elements-copied value b w at left right new to from some same span edge right_ed
     rw (numbers, part) wrote)
 
 -- ---- the bits of one element
-
--- a window that is not empty begins in an element of its memory
-pub first-inside : {A : Type 0} (value : A → ℕ) (b : ℕ) (xs : List A) (window : Window) → HasWindow b (map value xs) window → 0 < window.len → window.start / b < length xs
-first-inside value b xs window has some =
-    let place = div-add-mod' window.start b in
-    let start = has.within.start in
-    let len = has.within.len in
-    rw (← length-map xs value) (element_of b (window.start / b) (window.start % b) (length (map value xs)) (omega arith))
-
--- the element behind those of a word, where bits of it are read
-pub next-inside : {A : Type 0} (value : A → ℕ) (b : ℕ) (xs : List A) (first skip : ℕ) → IsWidth b → b ≤ 64 → 0 < skip → HasWindow b (map value xs) (elements_window_from b first skip (64 / b)) → first + 64 / b < length xs
-next-inside value b xs first skip width narrow some has =
-    let whole = word_whole b width narrow in
-    let start = has.within.start in
-    let len = has.within.len in
-    rw (← length-map xs value) (element_of b (first + 64 / b) 0 (length (map value xs)) (omega arith))
 
 -- none
 pub none-copied : (b : ℕ) (at : ℕ → ℕ → ℕ) (xs ys : List ℕ) (to from : Window) → HasSpan b xs ys to from → to.len ≡ 0 → Writes b at xs xs to (list_in b at ys from)

@@ -1,9 +1,9 @@
 -- Windows written by whole words of another memory, and by blocks.
-use Rattle.std.specs.Prelude.{◌≡◌, ℕ, ◌+◌, ◌-◌, ◌*◌, ◌/◌, ◌%◌, ◌<◌, ◌≤◌, min, Bool, List, length, slice_range, take, ◌^◌}
+use Rattle.std.specs.Prelude.{◌≡◌, ℕ, ◌+◌, ◌-◌, ◌*◌, ◌/◌, ◌%◌, ◌<◌, ◌≤◌, min, Bool, List, length, slice_range, take}
 use Rattle.std.proofs.Common.{arith, rules, subst, sym, ◌∙◌, ap}
 use Rattle.std.proofs.Math.Nat.{mul-le-mul_left}
 use Rattle.std.proofs.lemmas.List.{places, same_lists}
-use Rattle.std.proofs.lemmas.Nat.{div-add-mod', mul-le}
+use Rattle.std.proofs.lemmas.Nat.{div-add-mod'}
 use Rattle.bitvec_engine.specs.Pairs.{HasPair}
 use Rattle.bitvec_words.specs.WordLaws.{word_whole}
 use Rattle.bitvec_words.specs.CombinedLaws.{combined-range}
@@ -15,8 +15,7 @@ use Rattle.bitvec_base.specs.Memory.{HasWindow, Writes, element_bits, list_in}
 use Rattle.bitvec_base.specs.Window.{window_range}
 use Rattle.bitvec_base.specs.WritesLaws.{length-list, list-range}
 use Rattle.bitvec_store.specs.Width.{IsWidth}
-use Rattle.bitvec_store.specs.WidthLaws.{at_each_width, width_some}
-use Rattle.bitvec_words.specs.WholeLaws.{window-end}
+use Rattle.bitvec_store.specs.WidthLaws.{at_each_width}
 use Rattle.bitvec_elements.proofs.StoreLemmas.{stretch-next, stretch-old, until}
 
 -- ---- whole words
@@ -36,13 +35,6 @@ module _ (b w k : ℕ) (window : Window) (width : IsWidth b) (is : w ≡ b) (nar
 
   pub word-window : elements_window_from b (window.start / w + k * (64 / w)) (window.start % w) (64 / b) ≡ window_range window (k * 64) (k * 64 + 64)
   word-window = rw is (at_place _ _ place (word_whole b width narrow))
-
-  pub word-place : (xs : List ℕ) → HasWindow b xs window → k < window.len / 64 → window.start / w + k * (64 / w) < 2 ^ 64
-  word-place xs has below =
-      let end = window-end b xs window has in
-      let all = mul-le 1 (window.start / b + k * (64 / b)) b (window.start / b + k * (64 / b)) (omega (arith, width_some b width)) (omega arith) in
-      let cut = place in
-      rw is (omega arith)
 
   pub edge-window : window.start % 64 ≡ 0 → elements_window b (window.start / w + k * (64 / w)) (64 / b) ≡ window_range window (k * 64) (k * 64 + 64)
   edge-window edge =

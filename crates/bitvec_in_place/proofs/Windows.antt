@@ -17,7 +17,8 @@ use Rattle.bitvec_base.specs.WriteLaws.{length-slice_range, range-write_at, writ
 use Rattle.bitvec_base.specs.declared.window.Window.{Window}
 use Rattle.bitvec_segments.specs.Segments.{loaded, stored}
 use Rattle.bitvec_within.specs.Swaps.{swapped_within}
-use Rattle.bitvec_in_place.specs.MovedLaws.{get-put_outside, length-bits_of, length-put, length-swapped}
+use Rattle.bitvec_within.specs.SwapsLaws.{length-swapped}
+use Rattle.bitvec_in_place.specs.MovedLaws.{get-put_outside, length-bits_of, length-put}
 use Rattle.bitvec_in_place.specs.RangeBitsLaws.{length-bits_in}
 use Rattle.bitvec_in_place.specs.Ranges.{ChangesOnly, HasBits, bits_in, edited, flipped, joined, number_in, numbered}
 use Rattle.bitvec_in_place.specs.RangesLaws.{filled-write}

@@ -1,30 +1,23 @@
 -- The front of a list of bits: how long it is, each bit, and after an edit inside it, behind it or at its end.
 use Rattle.std.specs.Prelude.{◌≡◌, ◌≢◌, ℕ, ◌+◌, ◌-◌, ◌*◌, ◌<◌, ◌≤◌, Bool, List, [], ◌∷◌, ◌++◌, drop, length, refl, replicate, slice_index_or, slice_range, slice_set, take}
 use Rattle.std.specs.List.{insert, remove}
-use Rattle.std.proofs.Common.{◌∙◌, ap, append_assoc, arith, length-append, rules, sym, ⊎_elim}
+use Rattle.std.proofs.Common.{◌∙◌, ap, arith, rules, sym, ⊎_elim}
 use Rattle.std.proofs.Math.Seq.{take-add, take-set-lt}
 use Rattle.std.proofs.lemmas.Bool.{cases_eq}
 use Rattle.std.proofs.lemmas.Grind.{get_or-set_at, take-set_at}
-use Rattle.std.proofs.lemmas.List.{drop-drop, get_or-set_other, get_or-take, length-replicate, length-set, length-take-le, places, same_lists, take-take, take_all, take_at, take-append-le, take-set-le, take_more}
+use Rattle.std.proofs.lemmas.List.{drop-drop, get_or-set_other, get_or-take, length-replicate, length-set, length-take-le, places, same_lists, take-take, take_all, take-append-le, take-set-le, take_more}
 use Rattle.std.proofs.lemmas.List.Edits.{length-insert, length-remove}
 use Rattle.std.proofs.lemmas.Slice.{between_from_start}
 use Rattle.bitvec_base.specs.Lists.{copied_within}
 use Rattle.bitvec_base.specs.Memory.{memory_bits}
 use Rattle.bitvec_base.specs.MemoryLaws.{length-memory_bits, memory-append}
 use Rattle.bitvec_base.specs.Window.{write_at}
-use Rattle.bitvec_base.specs.WriteLaws.{get-slice_range, get-write_at_above, get-write_at_below, get-write_at_inside, length-slice_range, length-write_at}
+use Rattle.bitvec_base.specs.WriteLaws.{get-slice_range, get-write_at_above, get-write_at_below, get-write_at_inside, length-slice_range, length-write_at, take-written}
 use Rattle.bitvec_in_place.specs.Fronts.{front_bits}
 use Rattle.bitvec_in_place.specs.Inserted.{inserted, removed}
 use Rattle.bitvec_in_place.specs.Ranges.{filled}
 
 -- ---- of any list
-
-pub take-written : {X : Type 0} (list : List X) (s n : ℕ) (new : List X) → s ≤ length list → n ≡ s + length new → take n (write_at list s new) ≡ take s list ++ new
-unfolding write_at
-take-written list s n new inside is =
-    let front = length-take-le s list inside in
-    let long : length (take s list ++ new) ≡ n = length-append (take s list) new ∙ rw front (sym is) in
-    rw (← append_assoc (take s list) new (drop (s + length new) list)) (take_at (take s list ++ new) (drop (s + length new) list) n long)
 
 pub take-written_behind : {X : Type 0} (list : List X) (s n : ℕ) (new : List X) → n ≤ s → s + length new ≤ length list → take n (write_at list s new) ≡ take n list
 take-written_behind list s n new order room =

@@ -1,7 +1,7 @@
 -- What stands at an index of a list whose values moved or changed, and that the list is as long.
 use Rattle.std.specs.Prelude.{◌≡◌, ◌≢◌, ℕ, ◌+◌, ◌-◌, ◌*◌, ◌<◌, ◌≤◌, ◌⊎◌, Bool, false, not, List, length, map, replicate, slice_index_or, slice_range}
 use Rattle.std.specs.List.{swap}
-use Rattle.std.proofs.Common.{arith, sym, ◌∙◌, ap, ⊎_elim, inl, inr}
+use Rattle.std.proofs.Common.{arith, sym, ◌∙◌, ap, ⊎_elim}
 use Rattle.std.proofs.Math.ListN.{get_or-eq_default}
 use Rattle.std.proofs.lemmas.Bool.{cases_lt}
 use Rattle.std.proofs.lemmas.Grind.{get_or-set_at}
@@ -13,7 +13,6 @@ use Rattle.bitvec_base.specs.Memory.{memory_bits}
 use Rattle.bitvec_base.specs.MemoryLaws.{length-memory_bits}
 use Rattle.bitvec_base.specs.Window.{write_at}
 use Rattle.bitvec_base.specs.WriteLaws.{get-slice_range, get-write_at_above, get-write_at_below, get-write_at_inside, length-slice_range, length-write_at}
-use Rattle.bitvec_within.specs.Swaps.{LieApart, swapped_within}
 
 -- ---- lengths
 
@@ -99,45 +98,6 @@ get-swap_second {X} list i j k d here first second =
 pub get-swap_other : {X : Type 0} (list : List X) (i j k : ℕ) (d : X) → k ≢ i → k ≢ j → i < length list → j < length list → slice_index_or (swap list i j) k d ≡ slice_index_or list k d
 get-swap_other {X} list i j k d not_first not_second first second =
     ap (λ (l : List X). slice_index_or l k d) (sym (swap_is list i j d first second)) ∙ grind (arith, get_or-set_at, get_or-set_other, length-set)
-
--- ranges exchanged
-module _ {X : Type 0} (from to dest : ℕ) (list : List X) (order : from ≤ to) (source : to ≤ length list) (room : dest + (to - from) ≤ length list) where
-  length-moved : length (slice_range list dest (dest + (to - from))) ≡ to - from
-  length-moved = let long = length-slice_range list dest (dest + (to - from)) room in omega arith
-
-  length-once : length (write_at list from (slice_range list dest (dest + (to - from)))) ≡ length list
-  length-once = length-put list from to (slice_range list dest (dest + (to - from))) order source length-moved
-
-  pub length-swapped : length (swapped_within from to dest list) ≡ length list
-  unfolding swapped_within
-  length-swapped =
-      let long = length-slice_range list from to source in
-      let once = length-once in
-      length-write_at (write_at list from (slice_range list dest (dest + (to - from)))) dest (slice_range list from to) (omega arith) ∙ once
-
-  pub get-swapped_back : (k : ℕ) (d : X) → dest ≤ k → k < dest + (to - from) → slice_index_or (swapped_within from to dest list) k d ≡ slice_index_or list (from + (k - dest)) d
-  unfolding swapped_within
-  get-swapped_back k d low high =
-      let long = length-slice_range list from to source in
-      let once = length-once in
-      get-write_at_inside (write_at list from (slice_range list dest (dest + (to - from)))) dest (slice_range list from to) k d (omega arith) low (omega arith)
-      ∙ get-slice_range list from to (k - dest) d (omega arith)
-
-  outside_back : (k : ℕ) (d : X) → (k < dest) ⊎ (dest + (to - from) ≤ k) → slice_index_or (swapped_within from to dest list) k d ≡ slice_index_or (write_at list from (slice_range list dest (dest + (to - from)))) k d
-  unfolding swapped_within
-  outside_back k d apart =
-      let long = length-slice_range list from to source in
-      let once = length-once in
-      get-put_outside (write_at list from (slice_range list dest (dest + (to - from)))) dest (dest + (to - from)) (slice_range list from to) (omega arith) (omega arith) (omega arith) k d apart
-
-  pub get-swapped_front : (k : ℕ) (d : X) → LieApart from to dest → from ≤ k → k < to → slice_index_or (swapped_within from to dest list) k d ≡ slice_index_or list (dest + (k - from)) d
-  get-swapped_front k d apart low high =
-      outside_back k d (⊎_elim (λ (before : to ≤ dest). inl (omega arith)) (λ (after : dest + (to - from) ≤ from). inr (omega arith)) apart)
-      ∙ get-put_inside list from to (slice_range list dest (dest + (to - from))) order source length-moved k d low high
-      ∙ get-slice_range list dest (dest + (to - from)) (k - from) d (omega arith)
-
-  pub get-swapped_outside : (k : ℕ) (d : X) → (k < from) ⊎ (to ≤ k) → (k < dest) ⊎ (dest + (to - from) ≤ k) → slice_index_or (swapped_within from to dest list) k d ≡ slice_index_or list k d
-  get-swapped_outside k d front back = outside_back k d back ∙ get-put_outside list from to (slice_range list dest (dest + (to - from))) order source length-moved k d front
 
 -- a memory of zeros
 pub get-zeros : (b : ℕ) (at : ℕ → ℕ → ℕ) (words : List ℕ) (k : ℕ) (d : Bool) → words ≡ replicate (length words) 0 → k < b * length words → slice_index_or (memory_bits b at words) k d ≡ false

@@ -16,7 +16,8 @@ use Rattle.bitvec_segments.specs.SegmentsLaws.{first_len}
 use Rattle.bitvec_segments.specs.StoreLaws.{length-stored, stored-loads}
 use Rattle.bitvec_within.specs.Combined.{combined_within}
 use Rattle.bitvec_within.specs.Swaps.{LieApart, swapped_within}
-use Rattle.bitvec_in_place.specs.MovedLaws.{get-copied_inside, get-put_inside, get-swapped_back, get-swapped_front, length-swapped}
+use Rattle.bitvec_within.specs.SwapsLaws.{get-swapped_back, get-swapped_front, length-swapped}
+use Rattle.bitvec_in_place.specs.MovedLaws.{get-copied_inside, get-put_inside}
 use Rattle.bitvec_in_place.specs.Ranges.{bits_in, filled, number_in, numbered}
 use Rattle.bitvec_in_place.specs.RangeBitsLaws.{bits-combined, bits-in_filled, bits-swapped, get-bits_in, length-bits_in}
 use Rattle.bitvec_in_place.specs.RangesLaws.{length-numbered}

@@ -13,7 +13,8 @@ use Rattle.bitvec_base.specs.WriteLaws.{get-slice_range, length-slice_range, ran
 use Rattle.bitvec_within.specs.Combined.{combined_within}
 use Rattle.bitvec_within.specs.CombinedLaws.{get-combined_within_above, get-combined_within_below, length-combined_within}
 use Rattle.bitvec_within.specs.Swaps.{swapped_within}
-use Rattle.bitvec_in_place.specs.MovedLaws.{get-copied_outside, get-swap_other, get-swapped_outside, length-swapped}
+use Rattle.bitvec_within.specs.SwapsLaws.{get-swapped_outside, length-swapped}
+use Rattle.bitvec_in_place.specs.MovedLaws.{get-copied_outside, get-swap_other}
 use Rattle.bitvec_in_place.specs.Ranges.{bits_in, edited, filled, flipped, joined, numbered}
 use Rattle.bitvec_in_place.specs.RangesLaws.{get-filled_inside, get-filled_outside, get-flipped_outside, get-joined_outside, get-moved_end_outside, get-moved_start_outside, get-numbered_outside, get-reversed_outside, get-rotated_left_outside, get-rotated_right_outside, length-filled, length-flipped, length-joined, length-moved_end, length-moved_start, length-numbered, length-reversed, length-rotated_left, length-rotated_right}
 

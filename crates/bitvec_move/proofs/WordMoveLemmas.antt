@@ -1,4 +1,4 @@
--- Bytes moved by words: what a word of a memory has, and words written side by side or over one another.
+-- Bytes moved by words: what a word of a memory has, and where each is read and written.
 use Rattle.std.specs.Prelude.{◌≡◌, ℕ, ◌+◌, ◌-◌, ◌*◌, ◌<◌, ◌≤◌, Bool, true, false, if◌then◌else◌, List, ◌++◌, length, take, drop, replicate, slice_index, slice_range, refl}
 use Rattle.std.proofs.Common.{arith, rules, sym, ◌∙◌, ap}
 use Rattle.std.proofs.lemmas.List.{same_lists, places}
@@ -19,7 +19,7 @@ pub placed-range : (list : List Bool) (b to : ℕ) → length list ≡ b → to 
 unfolding write_at
 placed-range list b to long fits = same_lists _ _ (search (rules, places)) (λ k d inside. grind (arith, places))
 
--- as many values as a slice, that begin inside it or inside what stands before it: the others are a word's first ones or its last ones
+-- as many values as a slice has, which begin inside it or inside what stands before it. The others are a word's first or last ones
 list-behind_word : (list word : List Bool) (a b n skip : ℕ) → skip < b → b ≤ n → length word ≡ n → a + n + b ≤ length list → slice_range word 0 b ≡ slice_range list (a + n) (a + n + b)
     → drop skip (slice_range list a (a + n)) ++ take skip word ≡ slice_range list (a + skip) (a + skip + n)
 list-behind_word list word a b n skip below narrow long fits same =
@@ -69,7 +69,7 @@ word-window old first source skip count e has low high =
 
 -- ---- words of bytes moved from the first one on, or `later` from the last one back
 
--- the place of the word after which m bytes of n are moved; where the word that is read then begins; and the index in a word of the byte that is carried
+-- the place of the word after which m bytes of n are moved. Then where the word that is read begins, and the carried byte's index in a word
 abbrev pub word_place : Bool → ℕ → ℕ → ℕ
 word_place later m n = part_place later 8 m n
 

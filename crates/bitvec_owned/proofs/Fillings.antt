@@ -6,7 +6,7 @@ use Rattle.std.proofs.lemmas.Grind.{div_ceil_times}
 use Rattle.std.proofs.lemmas.List.{drop_at, length-replicate, length-take-le, map-append, replicate-append-replicate, take-append-le, take_all, take_at}
 use Rattle.std.proofs.lemmas.Nat.{div-add-mod'}
 use Rattle.bitvec_base.specs.Memory.{element_bits, memory_bits}
-use Rattle.bitvec_base.specs.MemoryLaws.{element-range, length-memory_bits}
+use Rattle.bitvec_base.specs.MemoryLaws.{element-range, length-memory_bits, memory-append}
 use Rattle.bitvec_base.specs.Order.{Permutes}
 use Rattle.bitvec_base.specs.PartLaws.{element-all, element-none}
 use Rattle.bitvec_base.specs.SliceLaws.{range-all}
@@ -15,7 +15,7 @@ use Rattle.bitvec_slice.specs.SeenLaws.{length-memory}
 use Rattle.bitvec_owned.specs.Fronts.{LeavesFront}
 use Rattle.bitvec_owned.specs.Owned.{rest_bits}
 use Rattle.bitvec_owned.proofs.FrontLists.{cut-front, cut-zeros}
-use Rattle.bitvec_owned.proofs.Fronts.{append, fewest, times}
+use Rattle.bitvec_owned.proofs.Fronts.{fewest, times}
 
 -- behind a list came values that are the same; so became its last ones, from the place `end` on, and then all are 0 behind so many
 module _ (old first new : List Bool) (end count r : ℕ) (bit : Bool) (inside : end ≤ length old) (fits : end + count ≤ length old + r)
@@ -96,7 +96,7 @@ module _ {T : Type 0} (b : ℕ) (at : ℕ → ℕ → ℕ) (value : T → ℕ) (
     same zero = let none : b * 0 ≡ 0 = omega arith in rw none refl
     same (suc n) =
         let sum : b + b * n ≡ b * suc n = omega arith in
-        append b at value some (value x ∷ []) (map value (replicate n x))
+        memory-append b at (value x ∷ []) (map value (replicate n x)) some
         ∙ ap (λ (l : List Bool). l ++ bits_of (replicate n x)) (one (value x) ∙ is)
         ∙ ap (λ (l : List Bool). replicate b bit ++ l) (same n)
         ∙ replicate-append-replicate b (b * n) bit
@@ -105,7 +105,7 @@ module _ {T : Type 0} (b : ℕ) (at : ℕ → ℕ → ℕ) (value : T → ℕ) (
     more : (elements : List T) (n : ℕ) → bits_of (elements ++ replicate n x) ≡ bits_of elements ++ replicate (b * n) bit
     more elements n =
         ap (memory_bits b at) (map-append value elements (replicate n x))
-        ∙ append b at value some (map value elements) (map value (replicate n x))
+        ∙ memory-append b at (map value elements) (map value (replicate n x)) some
         ∙ ap (λ (l : List Bool). bits_of elements ++ l) (same n)
 
     -- such elements were added, the last of the others were filled, and the bits behind those that were asked for are 0

@@ -1,18 +1,10 @@
 -- Memories as lists of bits: their first bits, and zeros behind and around.
 use Rattle.std.specs.Prelude.{◌≡◌, ℕ, ◌+◌, ◌-◌, ◌<◌, ◌≤◌, suc, Bool, false, List, [], ◌∷◌, ◌++◌, drop, length, replicate, slice_index_or, slice_range, slice_set, take, refl}
-use Rattle.std.proofs.Common.{◌∙◌, ap, arith, append_assoc, length-append, length-drop, length-take, sym}
-use Rattle.std.proofs.lemmas.List.{append-nil, drop-append-le, drop_all, drop_at, drop-drop, drop-replicate, length-replicate, length-take-le, replicate-append-replicate, take-append-drop, take-append-le, take-replicate, take-take, take_all, take_at, take_more}
+use Rattle.std.proofs.Common.{◌∙◌, ap, arith, length-append, length-drop, length-take, sym}
+use Rattle.std.proofs.lemmas.List.{append-nil, drop-append-le, drop_all, drop_at, drop-drop, drop-replicate, length-replicate, length-take-le, replicate-append-replicate, take-append-drop, take-append-le, take-replicate, take-take, take_all, take_more}
 use Rattle.bitvec_base.specs.SliceLaws.{range-rest}
 use Rattle.bitvec_base.specs.Window.{write_at}
-use Rattle.bitvec_base.specs.WriteLaws.{drop-write_at, take-write_at}
-
--- what stands up to the end of a write
-pub take-written : {X : Type 0} (list : List X) (s n : ℕ) (new : List X) → s ≤ length list → n ≡ s + length new → take n (write_at list s new) ≡ take s list ++ new
-unfolding write_at
-take-written list s n new inside is =
-    let front = length-take-le s list inside in
-    let long : length (take s list ++ new) ≡ n = length-append (take s list) new ∙ omega arith in
-    rw (← append_assoc (take s list) new (drop (s + length new) list)) (take_at (take s list ++ new) (drop (s + length new) list) n long)
+use Rattle.bitvec_base.specs.WriteLaws.{drop-write_at, take-write_at, take-written}
 
 -- a list of which a range stands between zeros, as a write into zeros
 pub write_around : (list : List Bool) (n s e : ℕ) → length list ≡ n → s ≤ e → e ≤ n → take s list ≡ replicate s false → drop e list ≡ replicate (n - e) false

@@ -4,25 +4,18 @@ use Rattle.std.specs.Int.{div_ceil}
 use Rattle.std.proofs.Common.{◌∙◌, ap, arith, length-append, sym}
 use Rattle.std.proofs.Math.Nat.{lt_of_mul-lt-mul_right, mul-le-mul_left}
 use Rattle.std.proofs.lemmas.Grind.{div_ceil_times}
-use Rattle.std.proofs.lemmas.List.{drop-append-le, drop_at, length-map, length-replicate, length-take-le, map-append, take-append-le, take-map, take-take, take_at}
+use Rattle.std.proofs.lemmas.List.{drop-append-le, length-map, length-replicate, length-take-le, map-append, take-append-le, take-map, take-take}
 use Rattle.std.proofs.lemmas.Slice.{between_from_start}
 use Rattle.bitvec_base.specs.FilledLaws.{bits-zeros}
 use Rattle.bitvec_base.specs.Memory.{memory_bits}
-use Rattle.bitvec_base.specs.MemoryLaws.{length-memory_bits, memory-range}
-use Rattle.bitvec_base.specs.SliceLaws.{range-all, range-join, range-rest, range-to_end}
+use Rattle.bitvec_base.specs.MemoryLaws.{memory-append, memory-range}
+use Rattle.bitvec_base.specs.SliceLaws.{range-rest}
 use Rattle.bitvec_base.specs.Window.{window_of, write_at}
 use Rattle.bitvec_slice.specs.Seen.{shown}
 use Rattle.bitvec_slice.specs.SeenLaws.{length-memory, length_bits}
 use Rattle.bitvec_owned.specs.Copies.{Holds, KeepsAround}
 use Rattle.bitvec_owned.specs.Fronts.{LeavesFront}
 use Rattle.bitvec_owned.proofs.FrontLists.{cut-front, cut-zeros, grown-front, grown-zeros, taken-front, taken-zeros, write_around, zeros_before, zeros_behind}
-
--- the two parts of a list, as slices
-range-front : {X : Type 0} (xs ys : List X) → slice_range (xs ++ ys) 0 (length xs) ≡ xs
-range-front xs ys = between_from_start (xs ++ ys) (length xs) ∙ take_at xs ys (length xs) refl
-
-range-behind : {X : Type 0} (xs ys : List X) → slice_range (xs ++ ys) (length xs) (length (xs ++ ys)) ≡ ys
-range-behind xs ys = range-to_end (xs ++ ys) (length xs) (length (xs ++ ys)) (omega arith) ∙ drop_at xs ys (length xs) refl
 
 pub times : (b x d c : ℕ) → x + d ≡ c → b * x + b * d ≡ b * c
 times b x d c is = rw (← is) (omega arith)
@@ -42,21 +35,6 @@ module _ {T : Type 0} (b : ℕ) (at : ℕ → ℕ → ℕ) (value : T → ℕ) (
       ∙ memory-range b at xs 0 n some (omega arith) (omega arith)
       ∙ rw (first, last) (between_from_start (memory_bits b at xs) (b * n))
 
-  pub append : (xs ys : List ℕ) → memory_bits b at (xs ++ ys) ≡ memory_bits b at xs ++ memory_bits b at ys
-  append xs ys =
-      let all = xs ++ ys in
-      let m = length xs in
-      let n = length all in
-      let sum = length-append xs ys in
-      let whole = length-memory_bits b at all in
-      let product : n * b ≡ b * n = omega arith in
-      sym (
-      ap (λ (l : List Bool). l ++ memory_bits b at ys) (ap (memory_bits b at) (sym (range-front xs ys)) ∙ memory-range b at all 0 m some (omega arith) (omega arith))
-      ∙ ap (λ (l : List Bool). slice_range (memory_bits b at all) (0 * b) (m * b) ++ l) (ap (memory_bits b at) (sym (range-behind xs ys)) ∙ memory-range b at all m n some (omega arith) (omega arith))
-      ∙ range-join (memory_bits b at all) (0 * b) (m * b) (n * b) (omega arith) (rw sum (omega arith)) (omega arith)
-      ∙ ap (λ (s : ℕ). slice_range (memory_bits b at all) s (n * b)) (let first : 0 * b ≡ 0 = omega arith in first)
-      ∙ range-all (memory_bits b at all) (n * b) (omega arith))
-
   zeros : (none : T) (n : ℕ) → value none ≡ 0 → map value (replicate n none) ≡ replicate n 0
   zeros none zero is = refl
   zeros none (suc n) is = rw (is, zeros none n is) refl
@@ -67,7 +45,7 @@ module _ {T : Type 0} (b : ℕ) (at : ℕ → ℕ → ℕ) (value : T → ℕ) (
       let ys : List ℕ = replicate n 0 in
       let many = length-replicate {A = ℕ} n 0 in
       ap (memory_bits b at) (map-append value elements (replicate n none) ∙ ap (λ (l : List ℕ). xs ++ l) (zeros none n is))
-      ∙ append xs ys
+      ∙ memory-append b at xs ys some
       ∙ ap (λ (l : List Bool). memory_bits b at xs ++ l) (bits-zeros b at ys (rw many refl) ∙ rw many refl)
 
   -- ---- what follows from what was left

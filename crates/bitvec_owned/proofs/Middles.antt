@@ -8,8 +8,7 @@ use Rattle.std.proofs.lemmas.Slice.{between_is}
 use Rattle.bitvec_base.specs.Lists.{copied_within}
 use Rattle.bitvec_base.specs.SliceLaws.{range-to_end}
 use Rattle.bitvec_base.specs.Window.{write_at}
-use Rattle.bitvec_base.specs.WriteLaws.{length-slice_range}
-use Rattle.bitvec_owned.proofs.FrontLists.{take-written}
+use Rattle.bitvec_base.specs.WriteLaws.{length-slice_range, take-written}
 
 module _ {X : Type 0} where
   -- what stands from i on, copied one place further of a list with one value more, and a value written at i

@@ -4,15 +4,10 @@ use Rattle.std.specs.List.{last_or}
 use Rattle.std.proofs.Common.{arith}
 use Rattle.std.proofs.Math.Seq.{take-append_seam}
 use Rattle.std.proofs.lemmas.List.{length-append}
-use Rattle.bitvec_query.specs.declared.turns.End.TheVariants.{Front, Back}
+use Rattle.bitvec_query.specs.declared.turns.End.TheVariants.{Back}
 use Rattle.bitvec_query.specs.Turns.{TurnGives}
 
 module _ {X : Type 0} where
-  -- a turn from the front, and from the back
-  pub turn-front : (values left : List X) (given : Option X) → MatchOption given ((values ≡ []) × (left ≡ [])) (λ x. values ≡ x ∷ left) → TurnGives values Front given left
-  turn-front values left None none turns = rw (none.0, none.1) refl
-  turn-front values left (Some x) first turns = rw first refl
-
   last-is : (o : Option X) (values : List X) (x : X) → last_or o (values ++ x ∷ []) ≡ Some x
   last-is o [] x = refl
   last-is o (y ∷ values) x = last-is (Some y) values x

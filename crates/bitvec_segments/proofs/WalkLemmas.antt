@@ -146,7 +146,7 @@ Loaded-all big high b at xs window rest number none is =
 abbrev pub Left : Bool → Bool → ℕ → (ℕ → ℕ → ℕ) → List ℕ → List ℕ → Window → Window → ℕ → Type 0
 Left big high b at old now window rest v = (new : List ℕ) → StoresIn big high b at now new rest (v / 2 ^ lower_bits big (window.len - rest.len) 0) → StoresIn big high b at old new window v
 
--- of a number without the bits of the d bits before: the bits of a part with e bits behind it, and those behind t bits
+-- of a number without the d bits before: the bits of a part with e bits behind it, and those behind t bits
 moved-part : (big : Bool) (v d e : ℕ) → v / 2 ^ lower_bits big d 0 / 2 ^ lower_bits big 0 e ≡ v / 2 ^ lower_bits big d e
 moved-part true v d e = ap (λ (n : ℕ). n / 2 ^ e) (unmoved true v)
 moved-part false v d e = unmoved false (v / 2 ^ d)

@@ -1,19 +1,20 @@
 -- A view of which a part was lent has the part's bits in the part's place, and else its own.
-use Rattle.std.specs.Prelude.{◌≡◌, ℕ, ◌+◌, ◌-◌, ◌*◌, ◌%◌, ◌<◌, ◌≤◌, Bool, true, false, List, drop, if◌then◌else◌, length, map, slice_index_or, slice_range, take, refl}
+use Rattle.std.specs.Prelude.{◌≡◌, ℕ, ◌+◌, ◌-◌, ◌*◌, ◌%◌, ◌<◌, ◌≤◌, Bool, true, false, List, drop, if◌then◌else◌, length, map, slice_index_or, slice_range, refl}
 use Rattle.std.proofs.Common.{arith, sym, ◌∙◌, ap}
 use Rattle.std.proofs.Math.Nat.{mul-le-mul_right, add-mul}
 use Rattle.std.proofs.lemmas.List.{length-map, take_at, take-map, drop-map, map-append}
 use Rattle.bitvec_base.specs.Memory.{Writes, memory_bits}
 use Rattle.bitvec_base.specs.MemoryLaws.{length-memory_bits, memory-range}
-use Rattle.bitvec_base.specs.SliceLaws.{range-from_start, range-map, range-to_end}
+use Rattle.bitvec_base.specs.SliceLaws.{range-map}
 use Rattle.bitvec_base.specs.Window.{write_at, write_window}
 use Rattle.bitvec_base.specs.WindowLaws.{length-window, part-written}
-use Rattle.bitvec_base.specs.WriteLaws.{drop-write_at, get-slice_range, length-slice_range, length-write_at, range-write_at, take-write_at, write_at-inside, write_at-same}
+use Rattle.bitvec_base.specs.WriteLaws.{get-slice_range, length-slice_range, length-write_at, write_at-inside}
 use Rattle.bitvec_base.specs.declared.window.Window.{Window}
 use Rattle.bitvec_base.specs.WritesLaws.{Writes-nothing}
 use Rattle.bitvec_store.specs.WidthLaws.{width_some}
 use Rattle.bitvec_store.specs.declared.store.BitStore.{Ghosts as Store}
 use Rattle.bitvec_base.specs.declared.order.BitOrder.{Ghosts as Order}
+use Rattle.bitvec_words.specs.WrittenLaws.{memory-write_at}
 use Rattle.bitvec_domain.specs.Refill.{with_range}
 use Rattle.bitvec_domain.specs.declared.reference_mut.BitRefMut.{BitRefMut}
 use Rattle.bitvec_slice.specs.Indices.{WritesBitOf}
@@ -27,36 +28,6 @@ use Rattle.bitvec_slice.specs.Views.{seen_mut}
 use Rattle.bitvec_slice.specs.WriteLaws.{writes_bits}
 use Rattle.bitvec_slice.specs.Writes.{WritesBits}
 use Rattle.bitvec_slice.specs.declared.view_mut.BitSliceMut.{BitSliceMut}
-
--- elements that were written are bits that were written
-memory-written : (b : ℕ) (at : ℕ → ℕ → ℕ) (xs vs : List ℕ) (first : ℕ) → 0 < b → first + length vs ≤ length xs
-    → memory_bits b at (write_at xs first vs) ≡ write_at (memory_bits b at xs) (first * b) (memory_bits b at vs)
-unfolding write_at
-memory-written b at xs vs first some fits =
-    let zs = write_at xs first vs in
-    let end = first + length vs in
-    let old = memory_bits b at xs in
-    let new = memory_bits b at zs in
-    let long = length-write_at xs first vs fits in
-    let old-long = length-memory_bits b at xs in
-    let new-long = length-memory_bits b at zs ∙ ap (λ (n : ℕ). b * n) long in
-    let rows = mul-le-mul_right {m = end} {n = length xs} b fits in
-    let spread = add-mul first (length vs) b in
-    let vs-long = length-memory_bits b at vs in
-    let zero : 0 * b ≡ 0 = omega arith in
-    let middle : memory_bits b at vs ≡ slice_range new (first * b) (end * b) =
-    ap (memory_bits b at) (sym (range-write_at xs first vs fits)) ∙ memory-range b at zs first end some (omega arith) (omega arith) in
-    let front : take (first * b) new ≡ take (first * b) old =
-    sym (range-from_start new (first * b) (first * b) refl) ∙ ap (λ (n : ℕ). slice_range new n (first * b)) (sym zero) ∙ sym (memory-range b at zs 0 first some (omega arith) (omega arith))
-    ∙ ap (memory_bits b at) (range-from_start zs first first refl ∙ take-write_at xs first vs (omega arith) ∙ sym (range-from_start xs first first refl))
-    ∙ memory-range b at xs 0 first some (omega arith) (omega arith) ∙ ap (λ (n : ℕ). slice_range old n (first * b)) zero ∙ range-from_start old (first * b) (first * b) refl in
-    let behind : drop (end * b) new ≡ drop (end * b) old =
-    sym (range-to_end new (end * b) (length xs * b) (omega arith)) ∙ sym (memory-range b at zs end (length xs) some fits (omega arith))
-    ∙ ap (memory_bits b at) (range-to_end zs end (length xs) (omega arith) ∙ drop-write_at xs first vs (omega arith) ∙ sym (range-to_end xs end (length xs) (omega arith)))
-    ∙ memory-range b at xs end (length xs) some fits (omega arith) ∙ range-to_end old (end * b) (length xs * b) (omega arith) in
-    let ends : first * b + length (memory_bits b at vs) ≡ end * b = omega arith in
-    let same : write_at new (first * b) (memory_bits b at vs) ≡ write_at old (first * b) (memory_bits b at vs) = cc in
-    sym (ap (λ (l : List Bool). write_at new (first * b) l) middle ∙ write_at-same new (first * b) (end * b) (omega arith) (omega arith)) ∙ same
 
 map-written : {X Y : Type 0} (f : X → Y) (xs ws : List X) (first : ℕ) → map f (write_at xs first ws) ≡ write_at (map f xs) first (map f ws)
 unfolding write_at
@@ -135,7 +106,7 @@ module _ {T O : Type 0} {t : Store T} {o : Order O} where
         record {
           bits = ap (λ (l : List T). memory_bits b o.at (map t.value l)) left
               ∙ ap (memory_bits b o.at) (map-written t.value elements ws first)
-              ∙ memory-written b o.at xs (map t.value ws) first some (omega arith)
+              ∙ memory-write_at b o.at xs (map t.value ws) first some (omega arith)
               ∙ ap (λ (l : List Bool). write_at memory (first * b) l)
               (wrote.memory ∙ ap (λ (l : List Bool). write_at l (seen_mut part).window.start new) part-memory ∙ ap (λ (n : ℕ). write_at (slice_range memory (first * b) (end * b)) n new) is.start)
               ∙ write_at-inside memory (first * b) (end * b) ((start + from) % b) new (omega arith) (omega arith)

@@ -42,7 +42,7 @@ module _ {T O : Type 0} {t : Store T} {o : Order O} where
         name = refl;
       }
 
-  -- the same, where what was written is told by a slice and a window that are the view's
+  -- where what was written is told by a slice and a window that are the view's
   pub written : (v : BitSliceMut T O t o) (xs elements : List T) (window : Window) (made new : List Bool) → Writes t.BITS o.at (map t.value elements) (map t.value xs) window made
       → elements ≡ (seen_mut v).elements → window ≡ (seen_mut v).window → made ≡ new → WritesBits v (with_elements v xs) new
   written v xs elements window made new writes same place is = writes_bits v xs new (rw (same, place, is) at writes)

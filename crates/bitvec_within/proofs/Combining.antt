@@ -54,11 +54,7 @@ none-combined b at xs r op has none =
     let target = has.target in
     record { bits = sym (combined_within-none (operator op) r.from (r.from + r.len) r.to (memory_bits b at xs) (omega arith) (omega arith)); elements = refl }
 
--- the first n bits of each, and those behind them, lie as the ranges do
-pub rest-apart : (later : Bool) (r : Ranges) (n : ℕ) → n ≤ r.len → LieInOrder later r → LieInOrder later (rest_of r n)
-rest-apart true r n fits apart = omega arith
-rest-apart false r n fits apart = omega arith
-
+-- the ranges lie apart
 kept-apart : (later : Bool) (r : Ranges) → LieInOrder later r → (r.to ≤ r.from) ⊎ (r.from + r.len ≤ r.to)
 kept-apart true r apart = inr apart
 kept-apart false r apart = inl (omega arith)
@@ -170,17 +166,6 @@ cut_windows true r = (far_of r, source_of r)
 cut_windows false r = (target_of r, far_of r)
 
 module _ {A : Type 0} (b bits m : ℕ) (value : A → ℕ) (cells left right : List A) (r : Ranges) (same : bits ≡ b) (has : HasRanges b (map value cells) r) (last : m ≡ max r.from r.to) (edge : m % b ≡ 0) where
-  pub sides-inside : (later : Bool) → LieInOrder later r → AreSides later (m / bits) cells left right → HasWindow b (map value left) (cut_windows later r).0 × HasWindow b (map value right) (cut_windows later r).1
-  sides-inside true apart sides =
-      let cut = cut-at b bits value right m r.to same sides.1 edge (omega arith) in
-      let all = rw (sides.0, map-append value right left) at has in
-      let inside = both-inside b (map value right) (map value left) r.from r.to r.len all.fits apart all.target cut in
-      (inside.1, inside.0)
-  sides-inside false apart sides =
-      let cut = cut-at b bits value left m r.from same sides.1 edge (omega arith) in
-      let all = rw (sides.0, map-append value left right) at has in
-      both-inside b (map value left) (map value right) r.to r.from r.len all.fits apart all.source cut
-
   pub sides-combined : (at : ℕ → ℕ → ℕ) (some : 0 < b) (new : List A) (op : BitOp) (later : Bool) → LieInOrder later r → AreSides later (m / bits) cells left right
       → Writes b at (map value left) (map value new) (cut_windows later r).0 (combined (operator op) (list_in b at (map value left) (cut_windows later r).0) (list_in b at (map value right) (cut_windows later r).1))
       → Combines b at (map value cells) (map value (joined_sides later new right)) r op

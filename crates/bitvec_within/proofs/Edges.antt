@@ -127,7 +127,3 @@ cut-inside b bits value cells front rest window near f s n same has joined count
     let start = has.within.start in
     let end = has.within.len in
     rw range (record { fits = omega arith; within = record { start = omega arith; len = omega arith } }, record { fits = omega arith; within = record { start = omega arith; len = omega arith } })
-
--- a number of whole elements
-pub whole-is : (b n : ℕ) → n % b ≡ 0 → n / b * b ≡ n
-whole-is b n whole = let cut = div-add-mod n b in let product : n / b * b ≡ b * (n / b) = omega arith in omega arith

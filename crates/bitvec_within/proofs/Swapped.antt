@@ -1,34 +1,17 @@
 -- Ranges exchanged, a stretch after the other.
-use Rattle.std.specs.Prelude.{◌≡◌, ℕ, ◌+◌, ◌-◌, ◌<◌, ◌≤◌, ◌⊎◌, Bool, List, length, slice_index_or, slice_range, refl}
-use Rattle.std.proofs.Common.{arith, rules, ◌∙◌, ap}
+use Rattle.std.specs.Prelude.{◌≡◌, ℕ, ◌+◌, ◌-◌, ◌≤◌, ◌⊎◌, Bool, List, length, slice_range, refl}
+use Rattle.std.proofs.Common.{arith, ◌∙◌, ap}
 use Rattle.std.proofs.lemmas.Bool.{cases_lt}
-use Rattle.std.proofs.lemmas.List.{places, same_lists}
+use Rattle.std.proofs.lemmas.List.{same_lists}
 use Rattle.bitvec_base.specs.Lists.{copied_within}
 use Rattle.bitvec_base.specs.Memory.{HasWindow, Writes, list_in}
 use Rattle.bitvec_base.specs.Window.{window_range, write_at}
 use Rattle.bitvec_base.specs.WritesLaws.{HasWindow-kept, Writes-holds, Writes-next, Writes-range, list-range}
 use Rattle.bitvec_base.specs.declared.window.Window.{Window}
-use Rattle.bitvec_within.specs.Swaps.{LieApart, swapped_within}
+use Rattle.bitvec_within.specs.SwapsLaws.{get-swapped_back, get-swapped_front, get-swapped_outside, length-swapped}
+use Rattle.bitvec_within.specs.Swaps.{swapped_within}
 
-module _ {X : Type 0} (f t s : ℕ) (list : List X) (order : f ≤ t) (source : t ≤ length list) (room : s + (t - f) ≤ length list) where
-  length-swapped : length (swapped_within f t s list) ≡ length list
-  unfolding swapped_within write_at
-  length-swapped = search (rules, places)
-
-  -- a value of the first range, of the second, and elsewhere
-  get-swapped_near : (k : ℕ) (d : X) → LieApart f t s → f ≤ k → k < t → slice_index_or (swapped_within f t s list) k d ≡ slice_index_or list (s + (k - f)) d
-  unfolding swapped_within write_at
-  get-swapped_near k d apart low high = grind (arith, places)
-
-  get-swapped_far : (k : ℕ) (d : X) → LieApart f t s → s ≤ k → k < s + (t - f) → slice_index_or (swapped_within f t s list) k d ≡ slice_index_or list (f + (k - s)) d
-  unfolding swapped_within write_at
-  get-swapped_far k d apart low high = grind (arith, places)
-
-  get-swapped_other : (k : ℕ) (d : X) → (k < f) ⊎ (t ≤ k) → (k < s) ⊎ (s + (t - f) ≤ k) → slice_index_or (swapped_within f t s list) k d ≡ slice_index_or list k d
-  unfolding swapped_within write_at
-  get-swapped_other k d one other = grind (arith, places)
-
-ruleset swaps = (length-swapped, get-swapped_near, get-swapped_far, get-swapped_other)
+ruleset swaps = (length-swapped, get-swapped_front, get-swapped_back, get-swapped_outside)
 
 module _ {X : Type 0} where
   -- by how many values they are

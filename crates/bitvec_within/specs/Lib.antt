@@ -3,3 +3,4 @@ pub mod Combined
 pub mod CombinedLaws
 pub mod Ranges
 pub mod Swaps
+pub mod SwapsLaws

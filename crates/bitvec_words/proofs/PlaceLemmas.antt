@@ -1,8 +1,8 @@
 -- Where the first part of a window stands, its whole elements, and what is behind them.
-use Rattle.std.specs.Prelude.{◌≡◌, ℕ, ◌+◌, ◌*◌, ◌/◌, ◌%◌, ◌<◌, ◌≤◌, List, length}
+use Rattle.std.specs.Prelude.{◌≡◌, ℕ, ◌+◌, ◌/◌, ◌%◌, ◌<◌, ◌≤◌, List, length}
 use Rattle.std.proofs.Common.{arith}
 use Rattle.std.proofs.Math.Nat.{mul-le-mul_left}
-use Rattle.std.proofs.lemmas.Nat.{div-add-mod', mod_below}
+use Rattle.std.proofs.lemmas.Nat.{mod_below}
 use Rattle.bitvec_base.specs.declared.window.Window.{Window}
 use Rattle.bitvec_base.specs.Memory.{HasWindow}
 use Rattle.bitvec_store.specs.Width.{IsWidth}
@@ -10,7 +10,7 @@ use Rattle.bitvec_store.specs.WidthLaws.{width_some}
 use Rattle.bitvec_words.specs.Elements.{elements_window}
 use Rattle.bitvec_words.specs.FieldLaws.{element_of}
 use Rattle.bitvec_words.specs.Front.{front_window}
-use Rattle.bitvec_words.specs.WholeLaws.{HasWindow-part}
+use Rattle.bitvec_words.specs.WholeLaws.{HasWindow-part, whole-all}
 use Rattle.bitvec_words.specs.WordLaws.{width-some}
 
 -- an index of an element
@@ -19,10 +19,6 @@ index-within b w s width is = let below = mod_below s w (width-some b w width is
 
 pub index-below : (b w s : ℕ) → IsWidth b → w ≡ b → s % w < b
 index-below b w s width is = rw is (mod_below s b (width_some b width))
-
--- a window that begins where an element does
-pub whole-all : (b n : ℕ) → n % b ≡ 0 → n / b * b ≡ n
-whole-all b n full = let all = div-add-mod' n b in omega arith
 
 -- ---- a front, and the elements of a word
 

@@ -1,4 +1,4 @@
--- Lists of bits that are moved toward their start or end: their places, and two of them side by side.
+-- Lists of bits that are moved toward their start or end, and two of them side by side.
 use Rattle.std.specs.Prelude.{◌≡◌, ℕ, ◌+◌, ◌-◌, ◌<◌, ◌≤◌, Bool, true, false, ◌||◌, List, ◌++◌, length, take, drop, refl}
 use Rattle.std.proofs.Common.{arith, rules, sym, ◌∙◌, ap}
 use Rattle.std.proofs.Math.Bool.{or-false}

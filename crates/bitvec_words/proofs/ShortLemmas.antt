@@ -1,5 +1,5 @@
--- A window of at most an element's width that gets the first bits of an element: the part of its first element, of t
--- places, and what is left for the next one.
+-- A window of at most an element's width that gets the first bits of an element. Its first element's part has t places,
+-- and the next element gets the rest.
 use Rattle.std.specs.Prelude.{◌≡◌, ℕ, ◌+◌, ◌-◌, ◌/◌, ◌<◌, ◌≤◌, Bool, List, ◌++◌, length, take, slice_range, refl}
 use Rattle.std.proofs.Common.{arith, rules, ap, ◌∙◌}
 use Rattle.std.proofs.lemmas.List.{same_lists, places}

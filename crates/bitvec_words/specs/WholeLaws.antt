@@ -13,6 +13,10 @@ use Rattle.bitvec_words.specs.Elements.{elements_window}
 use Rattle.bitvec_words.specs.TouchedLaws.{touched-first, touched-from, touched-inside}
 use Rattle.bitvec_cells.specs.WalkLaws.{touched-none}
 
+-- bits that are whole elements
+pub whole-all : (b n : ℕ) → n % b ≡ 0 → n / b * b ≡ n
+whole-all b n full = let all = div-add-mod' n b in omega arith
+
 -- m elements that a window of n bits has
 pub whole_fits : (b n m : ℕ) → m ≤ n / b → m * b ≤ n
 whole_fits b n m fits = grind arith

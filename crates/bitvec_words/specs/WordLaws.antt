@@ -25,10 +25,6 @@ width-some b w width is = rw is (width_some b width)
 pub fits-word : (b e : ℕ) (xs : List ℕ) (window : Window) → IsWidth b → HasWindow b xs window → e ≤ length xs → e < 2 ^ 64
 fits-word b e xs window width has inside = omega (arith, mul-le-mul_left (length xs) (width_some b width))
 
--- an element in a word
-pub word-place : (b w i : ℕ) → IsWidth b → w ≡ b → b ≤ 64 → i < 64 / w → i * w + w ≤ 64
-word-place b w i width is narrow more = rw is (omega (arith, mul-le-mul_left b (rw is at more)))
-
 -- ---- an element of a window of whole elements
 
 pub inside : (b : ℕ) (xs ys : List ℕ) (first count i : ℕ) → IsWidth b → HasWindow b xs (elements_window b first count) → i < count → length ys ≡ length xs

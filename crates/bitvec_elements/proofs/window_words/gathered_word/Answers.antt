@@ -1,4 +1,4 @@
-use Rattle.std.proofs.Common.{◌≡◌, ℕ, ◌-◌, arith, ap, refl, sym, ◌∙◌}
+use Rattle.std.proofs.Common.{◌≡◌, ℕ, ◌-◌, ap, refl, sym, ◌∙◌}
 use Rattle.bitvec_base.specs.declared.part.Part.{Part}
 use Rattle.bitvec_base.specs.PartLaws.{element-none}
 use Rattle.bitvec_base.specs.Parts.{first_part_of}
@@ -8,8 +8,6 @@ use Rattle.bitvec_words.specs.ShortWindow.{padded}
 use Rattle.bitvec_words.specs.MovedLaws.{padded-none}
 use Rattle.bitvec_engine.proofs.WordLemmas.{gathered-next}
 use Rattle.bitvec_elements.proofs.window_words.gathered_word.Goals as goal
-
--- the rest's first part lies in an element, and in the rest
 
 pub loop-rest-init : goal.loop-rest-init
 loop-rest-init g c = record {

@@ -1,4 +1,4 @@
-use Rattle.std.proofs.Common.{◌-◌, arith, ◌∙◌}
+use Rattle.std.proofs.Common.{arith, ◌∙◌}
 use Rattle.bitvec_words.specs.PartWalkLaws.{HasPart-first}
 use Rattle.bitvec_words.specs.WholeLaws.{HasWindow-part}
 use Rattle.bitvec_store.specs.WidthLaws.{width_some}
