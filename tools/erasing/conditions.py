@@ -28,7 +28,7 @@ class Conditions:
     def test(self, clause):
         """The test of a clause; None where Rust grants it."""
         head = next((node.text for node in solid(clause.group.inner) if is_word(node)), "")
-        if head in table.NOTHING:
+        if head in table.NOTHING or head in table.STAYS:
             return None
         try:
             term = clauses.clause(clause.group.inner)
@@ -70,7 +70,7 @@ class Conditions:
         """A term as a number in Rust."""
         rust = self.plain_number(term, wide)
         if wide and not term.below or wide and term.head in (".", "app"):
-            return f"({rust} as u128)"
+            return f"crate::conditions::wide({rust})"
         return rust
 
     def plain_number(self, term, wide):
@@ -86,7 +86,7 @@ class Conditions:
             return f"({self.path(term.below[0])}::BITS as usize)"
         if term.head in ("+", "*", "/", "%", "-"):
             left, right = (self.number(it, wide) for it in term.below)
-            return f"(({left}) {term.head} ({right}))"
+            return f"{left} {term.head} {right}" if term.head in "*/%" else f"({left} {term.head} {right})"
         if term.head == "^":
             return "(1u128 << 64)" if str(term) == "2 ^ 64" else self.strange()
         if not term.below or term.head == ".":
@@ -142,8 +142,21 @@ def tests_of(item, stated, eraser, trait):
     return [test for test in (made.test(clause) for clause in stated.requires()) if test]
 
 
+def closures_of(stated):
+    """The closures of a function that have to leave a view in its place: the name of each, its type, and what wraps it."""
+    found = []
+    for clause in stated.requires():
+        words = clause.words
+        if wrap := table.STAYS.get(words.split()[0]):
+            kind, name = re.search(r"(\w)\.pre (\w+)\)", words) and re.search(r"\((\w)\.pre (\w+)\)", words).groups() or re.search(r"(\w)\.step (\w+)", words).groups()
+            view = "Self::View" if words.split()[1].startswith("Self.View.") else "Self"
+            found.append((name, kind, f"let mut {name} = crate::conditions::{wrap}::<T, O, {view}, _, _>({name});"))
+    return found
+
+
 def written(test, name, indent):
     """A test as Rust."""
+    begin = "cfg!(debug_assertions) && !" if "unchecked" in name else "!"
     values = ", ".join(f'("{label}", &{rust})' for label, rust in test.values)
-    return (f"{indent}if !({test.rust}) {{\n"
+    return (f"{indent}if {begin}({test.rust}) {{\n"
             f'{indent}    crate::conditions::fails("{name}", "{test.words}", &[{values}]);\n{indent}}}\n')

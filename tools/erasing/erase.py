@@ -1,6 +1,8 @@
 """Erases: writes the items of a source as Rust, without contracts, ghosts and tactics. It knows each form that it takes out or
 writes anew, and stops with the file and the line at another."""
-from items import Item
+import re
+
+import contracts
 from tokens import Group, Token, Unknown, is_group, is_mark, is_trivia, is_word, solid, text, word
 
 # Paths of Rattle's std that are another module here, and parts of std that are the same in Rust's `core`.
@@ -28,9 +30,9 @@ class Eraser:
 
     forms, kept, known_macros, moved, core = FORMS, KEPT, MACROS, MOVED, "core"
 
-    def __init__(self, file, home, paths, tester):
-        self.file, self.home, self.paths, self.tester = file, home, paths, tester
-        self.macros, self.uses_vec, self.errors = set(), False, []
+    def __init__(self, file, home, paths, tester, contracts=None):
+        self.file, self.home, self.paths, self.tester, self.contracts = file, home, paths, tester, contracts
+        self.macros, self.uses_vec, self.words = set(), False, {}
 
     def refuse(self, line, what):
         raise Unknown(self.file, line, what)
@@ -156,7 +158,11 @@ class Eraser:
     # items
 
     def items(self, items, outer):
-        return "".join(self.item(item, outer) for item in items)
+        before = self.words
+        self.words = {**before, **contracts.words_of(items)}
+        written = "".join(self.item(item, outer) for item in items)
+        self.words = before
+        return written
 
     def braced(self, item):
         """The items of a trait, an impl or a module, in their braces."""
@@ -177,11 +183,25 @@ class Eraser:
         write = getattr(self, f"write_{item.kind}")
         return write(item, outer) or ""
 
-    def before(self, item, more=()):
-        """What stands before an item's own words: its documents, its attributes and more of these, and who may name it."""
+    def before(self, item, more=(), contract=False):
+        """What stands before an item's own words: its documents, with the contract where it is told, its attributes and more of
+        these, and who may name it."""
         indent = "\n" + item.lead.rpartition("\n")[2]
-        parts = [token.text for token in item.docs] + [it for it in map(self.attribute, item.attributes) if it] + list(more)
+        parts = self.documents(item) + (self.contracts.lines(item, self.words) if contract and self.contracts else [])
+        parts += [it for it in map(self.attribute, item.attributes) if it] + list(more)
         return item.lead + "".join(part + indent for part in parts) + self.public(item)
+
+    def documents(self, item):
+        """The lines of an item's documents. Examples are parts of tests, which run as these."""
+        made, is_code = [], False
+        for token in item.docs:
+            line = token.text
+            if line.strip() == "/// ```":
+                line, is_code = line + ("" if is_code else "ignore"), not is_code
+            elif is_code:
+                line = line.replace("assert!(rt; ", "assert!(").replace("rt.alloc()", "Global").replace(".clone()?", ".clone()")
+            made.append(re.sub(r"\[`crate::([\w:]+)`\]", rf"[`\1`]({self.home}::\1)", line))
+        return made
 
     def public(self, item):
         """Who may name an item: `pub(crate)` means its crate, which is a module here."""
@@ -245,10 +265,10 @@ class Eraser:
         return out
 
     def write_struct(self, item, _outer):
-        head = text(self.code(self.bounds(self.defaulted(item))))
+        head = text(self.code(self.bounds(self.defaulted(item)))).rstrip()
         if item.body is None:
             return self.before(item) + "struct" + head + ";"
-        return self.before(item) + "struct" + head + str(Group("{", self.fields(item.body), 0, 0))
+        return self.before(item) + "struct" + head + " " + str(Group("{", self.fields(item.body), 0, 0))
 
     def defaulted(self, item):
         """The head of a struct, with the defaults of its parameters."""
@@ -279,7 +299,7 @@ class Eraser:
             kept = self.variant(piece, texts)
             body += self.code(kept) + [Token("mark", ",", 0)]
         end = [node for node in item.body.inner[-1:] if is_trivia(node)]
-        written = self.before(item) + "enum" + self.header(item.head) + str(Group("{", body + end, 0, 0))
+        written = self.before(item) + "enum" + self.header(item.head).rstrip() + " " + str(Group("{", body + end, 0, 0))
         if item.has_attribute("derive") and any("Error" in text(group.inner) for group in item.attributes):
             written += self.error(item, texts)
         return written

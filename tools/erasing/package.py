@@ -1,9 +1,11 @@
 """Writes the package: a module for each crate, private, and the public ones that `bitvec` has."""
+import functools
 import pathlib
 import re
 import shutil
 
 import table
+from contracts import Contracts, words_of
 from erase import Eraser
 from items import parsed
 from testing import Everything, Tester
@@ -33,6 +35,7 @@ def module_of(crate):
     return KEYWORDS.get(name, name)
 
 
+@functools.lru_cache(None)
 def sources(crate):
     """The files of a crate, by their path below src/, with their items."""
     folder = TOP / "crates" / crate / "src"
@@ -52,7 +55,7 @@ class Package:
         self.known = Everything()
         self.paths = {crate: f"crate::proved::{module_of(crate)}" for crate in self.crates}
         self.exports = self.exported()
-        self.macros = set()
+        self.macros, self.contracts = set(), Contracts(TOP)
         for files in self.parsed.values():
             for _, items in files.values():
                 self.known.read(items)
@@ -96,6 +99,7 @@ class Package:
 
     # what needs memory
 
+    @functools.lru_cache(None)
     def gated(self, crate):
         """The modules of a crate that name what needs memory."""
         files = self.parsed[crate]
@@ -127,7 +131,8 @@ class Package:
         shutil.copy(TOP / "LICENSE", self.out)
         for path in (HAND / "src").glob("*.rs"):
             shutil.copy(path, source)
-        modules = "".join(f"pub mod {name};\n" for name in sorted(self.exports) if name != "lib")
+        (source / "definitions.rs").write_text(self.contracts.written())
+        modules = "".join(f"pub mod {name};\n" for name in sorted([*self.exports, "definitions"]) if name != "lib")
         lib = source / "lib.rs"
         if "// modules\n" not in lib.read_text():
             raise Refused(f"{HAND / 'src/lib.rs'} has no line `// modules`")
@@ -152,7 +157,7 @@ class Package:
         (folder / "mod.rs").write_text(self.finished(self.eraser(crate, file), items) + self.passed([it.name for it in items if it.kind == "mod" and it.is_public]))
 
     def eraser(self, crate, file):
-        eraser = Eraser(file, self.paths[crate], self.paths, Tester(self.known))
+        eraser = Eraser(file, self.paths[crate], self.paths, Tester(self.known), self.contracts)
         eraser.macros |= self.macros
         return eraser
 
@@ -165,7 +170,7 @@ class Package:
 
     def wrappers(self, eraser, items, path):
         """The functions of a file that users call, which test their conditions."""
-        made = []
+        made, eraser.file_words = [], words_of(items)
         for item in items:
             if item.kind == "fn" and item.is_public and item.name in self.functions[eraser.home]:
                 if wrapper := eraser.tester.wrapper(eraser, item):
@@ -213,6 +218,7 @@ class Package:
     def lib(self, crate):
         return self.parsed[crate][pathlib.Path("lib.rt")][1]
 
+    @functools.lru_cache(None)
     def function(self, crate, name):
         for _, items in self.parsed[crate].values():
             for item in items:

@@ -9,7 +9,6 @@ COUNTS = [
     ("map ?value ?list", "#list"),
     ("?cells.numbers ?list", "{list}.len()"),
     ("numbers ?list", "{list}.len()"),
-    ("held self", "self.len()"),
     ("?list", "{list}.len()"),
 ]
 
@@ -17,6 +16,10 @@ COUNTS = [
 TERMS = [
     ("max_bits", "crate::proved::base::MAX_BITS", "MAX_BITS"),
     ("BITS", "(Self::BITS as usize)", "BITS"),
+    ("length (held self)", "self.len()", "len"),
+    ("length (?cells.numbers ?list)", "{list}.len()", "{list}.len"),
+    ("length (numbers self)", "self.len()", "len"),
+    ("length (Self.numbers self)", "self.len()", "len"),
     ("length ?list", "#list", "{list}.len"),
     ("vec_len ?list", "#list", "{list}.len"),
     ("N", "N", "N"),
@@ -37,7 +40,9 @@ TERMS = [
 # Forms of clauses: the test, and its words in a message.
 CONDITIONS = [
     ("HasWindow ?b ?list ?window", "crate::conditions::has_window({b}, #list, {window})", "{window} lies in the elements, which have at most MAX_BITS bits"),
-    ("HasBits ?b ?count ?from ?to", "crate::conditions::has_bits({b}, {count}, {from}, {to})", "{from} <= {to} <= the elements' bits, and these are at most MAX_BITS"),
+    ("HasBits ?b ?count ?index (?index + 1)", "crate::conditions::has_bit({b}, {count}, {index})", "the elements have the bit at {index}, and at most MAX_BITS"),
+    ("HasBits ?b ?count 0 (?len + 1)", "crate::conditions::has_bit({b}, {count}, {len})", "the elements have {len} bits and one more, and at most MAX_BITS"),
+    ("HasBits ?b ?count ?from ?to", "crate::conditions::has_bits({b}, {count}, {from}, {to})", "{from} <= {to} <= the bits of the elements, which are at most MAX_BITS"),
     ("HasRange ?range ?len", "{range}.start <= {range}.end && {range}.end <= {len}", "{range}.start <= {range}.end <= {len}"),
     ("HasPart ?b ?list ?part", "{part}.element < #list && {part}.from <= {part}.to && {part}.to <= {b}", "{part} is one of an element that is there"),
     ("HasSpan ?b ?left ?right ?to ?from", "crate::conditions::has_window({b}, #left, {to}) && crate::conditions::has_window({b}, #right, {from}) && {to}.len == {from}.len", "{to} and {from} lie in their elements and are as long"),
@@ -45,7 +50,7 @@ CONDITIONS = [
     ("HasShortWindow ?b ?list ?window", "crate::conditions::has_window({b}, #list, {window}) && 0 < {window}.len && {window}.len <= {b}", "{window} lies in the elements and has from 1 bit to the width"),
     ("FitsMaxBits ?b ?list", "crate::conditions::has_bits({b}, #list, 0, 0)", "the elements have at most MAX_BITS bits"),
     ("FitsWithin ?from ?to ?dest ?len", "crate::conditions::fits_within({from}, {to}, {dest}, {len})", "{from} <= {to} <= {len}, and as many bits fit from {dest} on"),
-    ("HasRoom ?b ?count ?from ?to ?dest", "crate::conditions::has_bits({b}, {count}, {from}, {to}) && crate::conditions::fits_within({from}, {to}, {dest}, {b} * {count})", "{from} <= {to} <= the elements' bits, and as many fit from {dest} on"),
+    ("HasRoom ?b ?count ?from ?to ?dest", "crate::conditions::has_bits({b}, {count}, {from}, {to}) && crate::conditions::fits_within({from}, {to}, {dest}, {b} * {count})", "{from} <= {to} <= the bits of the elements, and as many fit from {dest} on"),
     ("LieApart ?from ?to ?dest", "{to} <= {dest} || {to} - {from} <= {from} && {dest} <= {from} - ({to} - {from})", "the ranges lie apart"),
     ("IsRestOf ?rest ?len", "{rest}.front <= {rest}.back && {rest}.back <= {len}", "{rest}.front <= {rest}.back <= {len}"),
     ("CoversElements ?b ?view", "crate::conditions::covers(self.window(), self.elements.len(), T::BITS as usize)", "the view has all bits of its elements"),
@@ -63,8 +68,10 @@ CONDITIONS = [
     ("?a ≡ ?b", "{a} == {b}", "{a} == {b}"),
 ]
 
-# What Rust's own types and its borrow checker grant, or what is tested where the closure has been called.
-NOTHING = ("MayAsk", "MayGoOnIn", "MayGoOn", "CallableBelow", "CallableOnBits", "always_mut", "MayEdit", "MayEditEach", "MayEditGiven")
+# What Rust's own types and its borrow checker grant.
+NOTHING = ("MayAsk", "MayGoOnIn", "MayGoOn", "CallableBelow", "CallableOnBits", "always_mut")
+# What a closure owes that edits a view, tested each time that it has been called: that the view stands where it did.
+STAYS = {"MayEdit": "stays", "MayEditEach": "each_stays", "MayEditGiven": "each_stays"}
 
 # Methods that call a method of their own trait with the same conditions, which tests them.
 DELEGATED = {("BitField", "load"), ("BitFieldMut", "store"), ("EditElements", "edit_elements")}

@@ -2,12 +2,14 @@
 
 A method with conditions becomes two: NAME tests and calls NAME_proved, which has the body and which the library's own calls
 name. Where NAME is also that of a method that has no condition here or in std, the one method tests and has the body."""
+import dataclasses
 import re
 
 import conditions
 import table
 from erase import Eraser
-from tokens import Group, is_group, is_mark, is_word, solid, text, word
+from items import Clause
+from tokens import Group, Token, is_group, is_mark, is_word, solid, text, word
 
 # Methods of std's types that the text calls by the name of a method here.
 OF_STD = {"get", "set", "swap", "fill", "reverse", "split_at", "split_at_mut", "copy_within", "rotate_left", "rotate_right", 
@@ -22,6 +24,7 @@ class Everything:
         self.public = set()
         self.required = {}
         self.with_conditions, self.without = set(), set()
+        self.told = set()
 
     def read(self, items, outer=None):
         """Notes the methods of items, and which of them test conditions."""
@@ -70,11 +73,35 @@ def type_of(outer):
     return next(node.text for node in words[begin:] if is_word(node))
 
 
+def by_ghost(item, outer):
+    """A method of a trait of std, whose condition a ghost member states: `ghost can_index = { λ view i. .. };`."""
+    for ghost in outer.items:
+        if ghost.kind == "ghost" and ghost.name == f"can_{item.name}" and is_mark(ghost.head[0], "="):
+            words = solid(ghost.body.inner)
+            end = next(k for k, node in enumerate(words) if is_mark(node, "."))
+            names = dict(zip([node.text for node in words[1:end]], ["self", *conditions.kinds_of(item, Eraser)]))
+            clause = Clause("requires", "", Group("{", spaced(words[end + 1:], names), 0, 0), ghost.line)
+            return dataclasses.replace(item, clauses=[clause])
+    return item
+
+
+def spaced(nodes, names):
+    """Nodes with names written anew, and space between them."""
+    made = []
+    for node in nodes:
+        if is_group(node):
+            node = Group(node.open, spaced(solid(node.inner), names), node.line, node.end)
+        elif is_word(node):
+            node = word(names.get(node.text, node.text), node.line)
+        made += [node] if is_mark(node, ".") or made and is_mark(made[-1], ".") else [Token("space", " ", node.line), node]
+    return made
+
+
 class Tester:
     """Writes the functions of a crate."""
 
     def __init__(self, known):
-        self.known, self.renames, self.tests = known, True, True
+        self.known, self.renames, self.tests, self.is_told = known, True, True, False
 
     def inner_name(self, name, count, before=None):
         """The name in a call of so many arguments, `.name(..)` or, with what stands `before` it, `before::name(..)`."""
@@ -94,7 +121,9 @@ class Tester:
         if kind not in ("trait", "impl") or not self.tests:
             return item, True
         if kind == "impl" and outer.name:
-            stated = self.known.required.get(outer.name, {}).get(item.name, item)
+            stated = self.known.required.get(outer.name, {}).get(item.name)
+            if stated is None:
+                return by_ghost(item, outer), False
             is_tested = (outer.name, item.name) in table.TESTED
             return stated, stated.hidden and not is_tested or outer.name not in self.known.public
         return item, self.known.is_hidden(item, outer)
@@ -114,29 +143,36 @@ class Tester:
         if item.hidden and item.is_public and kind == "impl" and not outer.name:
             item.public = [word("pub(in crate)")]
             item.attributes = [it for it in item.attributes if "hidden" not in text(it.inner)]
+        self.is_told = False
         is_delegated = kind == "trait" and (outer.name, item.name) in table.DELEGATED
         tests = [] if hidden or is_delegated or kind == "trait" and item.body is None else conditions.tests_of(item, stated, eraser, self.trait(eraser, outer))
-        doubled = not hidden and bool(stated.requires()) and self.known.inner(*shape(item)) and kind in ("trait", "impl")
+        self.is_told = not hidden and (kind == "trait" or kind == "impl" and not outer.name) or kind is None and item.is_public
+        is_foreign = kind == "impl" and outer.name and outer.name not in self.known.required
+        doubled = not hidden and not is_foreign and bool(stated.requires()) and self.known.inner(*shape(item)) and kind in ("trait", "impl")
+        self.known.told |= {f"{item.name} needs that {test.words}" for test in tests}
+        self.known.told |= {f"{item.name} needs that {test.words}" for test in tests}
+        closures = [] if hidden or kind == "trait" and item.body is None else conditions.closures_of(stated)
+        tests += [line for _, _, line in closures]
         if doubled:
-            return self.two(eraser, item, tests, is_delegated)
+            return self.two(eraser, item, tests, is_delegated, {kind for _, kind, _ in closures})
         return self.one(eraser, item, tests)
 
     def one(self, eraser, item, tests):
         signature = eraser.signature(item, item.name)
         if item.body is None:
-            return eraser.before(item) + signature + ";"
+            return eraser.before(item, contract=self.is_told) + signature + ";"
         written = self.written(item, tests)
-        return eraser.before(item, ["#[track_caller]"] if tests else []) + signature + " {" + written + eraser.body(item) + "}"
+        return eraser.before(item, ["#[track_caller]"] if tests else [], self.is_told) + signature + " {" + written + eraser.body(item) + "}"
 
     @staticmethod
     def written(item, tests):
         indent = item.lead.rpartition("\n")[2] + "    "
-        return "".join("\n" + conditions.written(test, item.name, indent).rstrip("\n") for test in tests)
+        return "".join("\n" + (indent + test if isinstance(test, str) else conditions.written(test, item.name, indent).rstrip("\n")) for test in tests)
 
-    def two(self, eraser, item, tests, is_delegated):
+    def two(self, eraser, item, tests, is_delegated, wrapped):
         """The method that tests, and the one that has the body."""
         inner, indent = f"{item.name}_proved", item.lead.rpartition("\n")[2]
-        call = self.call(eraser, item, inner)
+        call = self.call(eraser, item, inner, wrapped)
         hidden = "\n\n" + indent + "#[doc(hidden)]\n" + indent
         attributes = "".join(it + "\n" + indent for it in map(eraser.attribute, item.attributes) if it and "inline" in it)
         public = "pub(in crate) " if item.public else ""
@@ -144,14 +180,14 @@ class Tester:
             hidden = "\n\n" + indent
         own = eraser.signature(item, inner)
         if item.body is None:
-            first = eraser.before(item) + eraser.signature(item, item.name) + ";"
+            first = eraser.before(item, contract=self.is_told) + eraser.signature(item, item.name) + ";"
             return first + hidden + "#[inline(always)]\n" + indent + public + own + " {\n" + indent + "    " + self.call(eraser, item, item.name) + "\n" + indent + "}"
         outer_words = self.unmuted(eraser.signature(item, item.name))
         # where there is nothing to test here, the trait's own method is called
-        first = eraser.before(item, ["#[track_caller]"] + [] if attributes else ["#[inline]", "#[track_caller]"])
+        first = eraser.before(item, ["#[track_caller]"] if attributes else ["#[inline]", "#[track_caller]"], self.is_told)
         if is_delegated:
             self.renames = False
-            first += outer_words + " {" + eraser.body(item) + "}"
+            first += outer_words + " {" + self.written(item, tests) + eraser.body(item) + "}"
             self.renames = True
         else:
             first += outer_words + " {" + self.written(item, tests) + "\n" + indent + "    " + call + "\n" + indent + "}"
@@ -161,7 +197,7 @@ class Tester:
     def unmuted(signature):
         return signature.replace("(mut ", "(").replace(" mut self", " self").replace(", mut ", ", ").replace("    mut ", "    ")
 
-    def call(self, eraser, item, name):
+    def call(self, eraser, item, name, wrapped=()):
         """The call of a method by the names of its own parameters."""
         arguments, with_self = [], False
         for piece in eraser.pieces(item.parameters.inner):
@@ -175,7 +211,7 @@ class Tester:
         for piece in eraser.pieces(item.generics[1:-1]):
             words = [it for it in solid(piece) if not is_word(it, "const")]
             if is_word(words[0]):
-                kinds.append(words[0].text)
+                kinds.append("_" if words[0].text in wrapped else words[0].text)
         turbofish = f"::<{', '.join(kinds)}>" if kinds else ""
         return f"{'self.' if with_self else 'Self::'}{name}{turbofish}({', '.join(arguments)})"
 
@@ -185,7 +221,9 @@ class Tester:
         tests = [test for test in map(made.test, item.requires()) if test]
         if not tests:
             return None
-        docs = "".join(token.text + "\n    " for token in item.docs)
+        self.known.told |= {f"{item.name} needs that {test.words}" for test in tests}
+        lines = eraser.documents(item) + (eraser.contracts.lines(item, eraser.file_words) if eraser.contracts else [])
+        docs = "".join(line + "\n    " for line in lines)
         deprecated = "".join(it + "\n    " for it in map(eraser.attribute, item.attributes) if it and "deprecated" in it)
         signature = self.unmuted(eraser.signature(item, item.name))
         written = "".join("\n" + conditions.written(test, item.name, "        ").rstrip("\n") for test in tests)

@@ -1,10 +1,12 @@
 """Writes the tests: those of the library stand in the package, those of its callers beside it."""
+import json
 import pathlib
 import shutil
+import sys
 
 import erase
 from erase import Eraser
-from package import HAND, Package, sources
+from package import HAND, TOP, Package, sources
 from testing import Tester
 from tokens import Group, is_group, is_mark, is_word, solid, text, word
 
@@ -27,6 +29,8 @@ LEFT_OUT = {
 }
 # Files that stand in bindings/rust/tests in place of the erased ones.
 BY_HAND = {("bitvec_test_support", "refusing"): "refusing.rs"}
+# Tests of the package by hand.
+BESIDE = ("conditions", "random", "golden")
 MACROS = erase.MACROS + ("vec", "format")
 
 
@@ -93,6 +97,29 @@ class Tests:
         (folder / "main.rs").write_text("//! Callers of the library, and their tests.\n#![allow(deprecated, unused)]\n\n"
                                         + "".join(f"mod {name};\n" for name in ["rattle", *names]))
         self.rattle(folder, "fehimbary::memory")
+
+        self.write_by_hand(out / "tests")
+
+    def write_by_hand(self, folder):
+        """The tests by hand, and the list of the conditions that one of them has to break."""
+        for name in BESIDE:
+            (folder / name).mkdir(parents=True, exist_ok=True)
+            shutil.copy(HAND / "tests" / f"{name}.rs", folder / name / "main.rs")
+        (folder / "golden/rows.rs").write_text(self.rows())
+        told = "".join(f'    "{words}",\n' for words in sorted(self.package.known.told))
+        (folder / "conditions/list.rs").write_text(f"/// Each condition that a public call tests.\npub const CONDITIONS: &[&str] = &[\n{told}];\n")
+
+    @staticmethod
+    def rows():
+        """The rows of golden/bitdo.txt that end well, with all that the program has: words, commands, and what is printed."""
+        sys.path.insert(0, str(TOP / "golden"))
+        import tables
+        rows = ""
+        for run in tables.read(TOP / "golden/bitdo.txt"):
+            if run.status == 0 and not run.lacks and run.source == "bytes" and len(run.words) == 6:
+                words = ", ".join(json.dumps(word.decode()) for word in run.words)
+                rows += f"    ({run.line}, [{words}], {json.dumps(run.input.decode())}, {json.dumps(run.printed.decode())}),\n"
+        return f"/// The line of each row, its words, its commands, and what is printed.\npub const ROWS: &[(u32, [&str; 6], &str, &str)] = &[\n{rows}];\n"
 
     @staticmethod
     def rattle(folder, memory):

@@ -23,7 +23,9 @@ mod conditions;
 pub mod memory;
 #[allow(dead_code, deprecated, missing_docs, unused_imports, unused_mut, unused_variables, clippy::all)]
 mod proved;
+mod traits;
 mod vectors;
+pub mod view;
 
 // modules
 
