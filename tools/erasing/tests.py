@@ -1,12 +1,13 @@
 """Writes the tests: those of the library stand in the package, those of its callers beside it."""
 import json
 import pathlib
+import re
 import shutil
 import sys
 
 import erase
 from erase import Eraser
-from package import HAND, TOP, Package, sources
+from package import HAND, TOP, Package, Refused, sources
 from testing import Tester
 from tokens import Group, is_group, is_mark, is_word, solid, text, word
 
@@ -30,7 +31,7 @@ LEFT_OUT = {
 # Files that stand in bindings/rust/tests in place of the erased ones.
 BY_HAND = {("bitvec_test_support", "refusing"): "refusing.rs"}
 # Tests of the package by hand.
-BESIDE = ("conditions", "random", "golden")
+BESIDE = ("conditions", "random", "golden", "readme")
 MACROS = erase.MACROS + ("vec", "format")
 
 
@@ -105,9 +106,18 @@ class Tests:
         for name in BESIDE:
             (folder / name).mkdir(parents=True, exist_ok=True)
             shutil.copy(HAND / "tests" / f"{name}.rs", folder / name / "main.rs")
+        (folder / "page.rs").write_text(self.page())
         (folder / "golden/rows.rs").write_text(self.rows())
         told = "".join(f'    "{words}",\n' for words in sorted(self.package.known.told))
         (folder / "conditions/list.rs").write_text(f"/// Each condition that a public call tests.\npub const CONDITIONS: &[&str] = &[\n{told}];\n")
+
+    @staticmethod
+    def page():
+        """The program of docs/RUST.md, as a test."""
+        found = re.search(r"^```rust > src/main.rs\n(.*?)^```$", (TOP / "docs/RUST.md").read_text(), re.M | re.S)
+        if not found:
+            raise Refused("docs/RUST.md has no program `src/main.rs`")
+        return f"//! The program of the page.\n\n{found[1]}\n#[test]\nfn the_program_ends_well() {{\n    main().expect(\"memory\");\n}}\n"
 
     @staticmethod
     def rows():

@@ -1,5 +1,6 @@
 """The tokens of a source, and their tree: brackets and what stands between them."""
 import dataclasses
+import re
 
 OPEN = {"(": ")", "[": "]", "{": "}"}
 CLOSE = set(OPEN.values())
@@ -68,122 +69,49 @@ def word(text, line=0):
     return Token("word", text, line)
 
 
-class Reader:
-    """Reads the tokens of a source."""
+TOKEN = re.compile(r"""
+    (?P<space>\s+)
+    | (?P<doc>//!.* | ///(?!/).*)
+    | (?P<comment>//.*)
+    | (?P<block>/\*)
+    | (?P<raw>[bc]?r(?P<hashes>\#*)"[\s\S]*?"(?P=hashes))
+    | (?P<string>[bc]?"(?:\\[\s\S]|[^"\\])*")
+    | (?P<char>b?'(?:\\(?:x[0-9a-fA-F]{2}|u\{[^}]*\}|.)|[^\\'\n])')
+    | (?P<lifetime>'[^\W\d]\w*)
+    | (?P<number>\d\w*(?:\.\d\w*)?)
+    | (?P<word>[^\W\d]\w*)
+    | (?P<mark>.)""", re.X)
 
-    def __init__(self, source, file):
-        self.source, self.file, self.at, self.line = source, file, 0, 1
 
-    def refuse(self, what):
-        raise Unknown(self.file, self.line, what)
+def tokens(source, file):
+    """The tokens of a source."""
+    at, line = 0, 1
+    while at < len(source):
+        found = TOKEN.match(source, at)
+        kind, end = found.lastgroup, found.end()
+        if kind == "block":
+            kind, end = "comment", end_of_comment(source, at)
+        if end is None or kind == "mark" and found[0] in "\"'":
+            raise Unknown(file, line, "a comment, a string or a character with no end")
+        yield Token("string" if kind in ("raw", "hashes") else kind, source[at:end], line)
+        line += source.count("\n", at, end)
+        at = end
 
-    def peek(self, ahead=0):
-        return self.source[self.at + ahead: self.at + ahead + 1]
 
-    def take(self, kind, end):
-        token = Token(kind, self.source[self.at:end], self.line)
-        self.line += token.text.count("\n")
-        self.at = end
-        return token
-
-    def tokens(self):
-        while self.at < len(self.source):
-            yield self.next()
-
-    def next(self):
-        here, rest = self.source[self.at], self.source
-        if here.isspace():
-            return self.take("space", self.while_(str.isspace))
-        if rest.startswith("//", self.at):
-            return self.line_comment()
-        if rest.startswith("/*", self.at):
-            return self.take("comment", self.block_comment())
-        if raw := self.raw_string():
-            return raw
-        if here == '"' or (here in "bc" and self.peek(1) == '"'):
-            return self.take("string", self.quoted(self.at + rest[self.at:].index('"'), '"'))
-        if here == "'" or (here == "b" and self.peek(1) == "'"):
-            return self.char_or_lifetime()
-        if here.isdigit():
-            return self.take("number", self.number())
-        if here == "_" or here.isidentifier():
-            return self.take("word", self.while_(lambda it: it == "_" or ("a" + it).isidentifier()))
-        return self.take("mark", self.at + 1)
-
-    def while_(self, holds):
-        end = self.at
-        while end < len(self.source) and holds(self.source[end]):
-            end += 1
-        return end
-
-    def line_comment(self):
-        end = self.source.find("\n", self.at)
-        end = len(self.source) if end < 0 else end
-        begin = self.source[self.at:self.at + 4]
-        is_doc = begin.startswith("//!") or (begin.startswith("///") and begin != "////")
-        return self.take("doc" if is_doc else "comment", end)
-
-    def block_comment(self):
-        depth, end = 0, self.at
-        while True:
-            if self.source.startswith("/*", end):
-                depth, end = depth + 1, end + 2
-            elif self.source.startswith("*/", end):
-                depth, end = depth - 1, end + 2
-                if depth == 0:
-                    return end
-            elif end >= len(self.source):
-                self.refuse("a comment with no end")
-            else:
-                end += 1
-
-    def raw_string(self):
-        end = self.at + (1 if self.peek() in ("b", "c") else 0)
-        if self.source[end:end + 1] != "r":
-            return None
-        hashes = 0
-        while self.source[end + 1 + hashes:end + 2 + hashes] == "#":
-            hashes += 1
-        if self.source[end + 1 + hashes:end + 2 + hashes] != '"':
-            return None
-        close = self.source.find('"' + "#" * hashes, end + 2 + hashes)
-        if close < 0:
-            self.refuse("a string with no end")
-        return self.take("string", close + 1 + hashes)
-
-    def quoted(self, begin, quote):
-        end = begin + 1
-        while self.source[end:end + 1] != quote:
-            if end >= len(self.source):
-                self.refuse("a string with no end")
-            end += 2 if self.source[end] == "\\" else 1
-        return end + 1
-
-    def char_or_lifetime(self):
-        begin = self.at + (self.peek() == "b")
-        after = self.source[begin + 1:begin + 2]
-        if after == "\\" or self.source[begin + 2:begin + 3] == "'":
-            return self.take("char", self.quoted(begin, "'"))
-        if after == "_" or after.isidentifier():
-            end = begin + 1
-            while end < len(self.source) and ("a" + self.source[end]).isidentifier():
-                end += 1
-            return self.take("lifetime", end)
-        return self.refuse("a quote that begins neither a character nor a lifetime")
-
-    def number(self):
-        end = self.while_(lambda it: it == "_" or it.isalnum())
-        if self.source[end:end + 1] == "." and self.source[end + 1:end + 2].isdigit():
-            end += 1
-            while end < len(self.source) and (self.source[end].isalnum() or self.source[end] == "_"):
-                end += 1
-        return end
+def end_of_comment(source, at):
+    """Where a block comment ends, which may hold others; None where it doesn't."""
+    depth = 0
+    for mark in re.compile(r"/\*|\*/").finditer(source, at):
+        depth += 1 if mark[0] == "/*" else -1
+        if depth == 0:
+            return mark.end()
+    return None
 
 
 def tree(source, file):
     """The nodes of a source: tokens, and groups of what stands between brackets."""
     stack, nodes = [], []
-    for token in Reader(source, file).tokens():
+    for token in tokens(source, file):
         if token.kind == "mark" and token.text in OPEN:
             stack.append((token, nodes))
             nodes = []

@@ -49,3 +49,21 @@ impl<T: BitStore, const N: usize> BitView for [T; N] {
         BitSliceMut::from_slice_mut(self)
     }
 }
+
+macro_rules! of_elements {
+    ($($element:ty)*) => {$(
+        impl BitView for $element {
+            type Store = $element;
+
+            fn view_bits<O: BitOrder>(&self) -> BitSlice<'_, $element, O> {
+                BitSlice::from_element(self)
+            }
+
+            fn view_bits_mut<O: BitOrder>(&mut self) -> BitSliceMut<'_, $element, O> {
+                BitSliceMut::from_element_mut(self)
+            }
+        }
+    )*};
+}
+
+of_elements!(u8 u16 u32 u64 u128 usize);

@@ -3,8 +3,8 @@
 
 mod list;
 
-use fehimbary::cells::{Cells, CellsRead, Exclusive, Shared, *};
-use fehimbary::engine::{self, End, Rest};
+use fehimbary::cells::{Cells, CellsRead, Exclusive, Shared};
+use fehimbary::engine::{self, BitOp, End, Rest};
 use fehimbary::index::{first_part, last_part, Part, Window};
 use fehimbary::prelude::*;
 use fehimbary::run::{run_halves, Op, Reply, Side, Step};
@@ -12,7 +12,6 @@ use fehimbary::slice::*;
 use fehimbary::{domain::*, elements::*, in_place, walk, words};
 use std::collections::BTreeSet;
 use std::panic::{catch_unwind, AssertUnwindSafe};
-use words::BitOp;
 
 const BYTES: [u8; 6] = [0xA6, 0x3C, 0x59, 0x0F, 0xE1, 0x7D];
 /// A window inside the bytes, one that ends behind them, and one of another length.
@@ -24,8 +23,8 @@ const PART: Part = Part { element: 6, from: 0, to: 1 };
 /// Conditions that no memory can break, since no address space has so many elements.
 const BOUNDLESS: &str = "<= MAX_BITS";
 
-type View<'a> = BitSliceMut<'a, u8, Msb0>;
-type Shown<'a> = BitSlice<'a, u8, Msb0>;
+type Written<'a> = BitSliceMut<'a, u8, Msb0>;
+type Read<'a> = BitSlice<'a, u8, Msb0>;
 
 /// The conditions that were seen to be tested.
 #[derive(Default)]
@@ -44,11 +43,11 @@ impl Seen {
     }
 }
 
-fn shown(bytes: &[u8; 6]) -> Shown<'_> {
+fn shown(bytes: &[u8; 6]) -> Read<'_> {
     BitSlice::from_slice(bytes)
 }
 
-fn view(bytes: &mut [u8; 6]) -> View<'_> {
+fn view(bytes: &mut [u8; 6]) -> Written<'_> {
     BitSliceMut::from_slice_mut(bytes)
 }
 
@@ -63,51 +62,49 @@ macro_rules! refused {
     )*};
 }
 
-/// Calls by name on cells and a window, with the same further arguments.
+/// Calls by name, each by a macro of those below: where they stand, their types and their last arguments.
+macro_rules! each {
+    ($call:ident $seen:ident $module:tt $kinds:tt $arguments:tt; $($name:ident)*) => {
+        $($call!($seen $module $kinds $arguments $name);)*
+    };
+}
+
+/// A call on cells and a window.
 macro_rules! on_cells {
-    ($seen:ident; $($path:ident)::+ <$order:ty> $(, $argument:expr)*; $($name:ident)*) => {$(
-        $seen.refuse(stringify!($name), |bytes| { let _ = $($path)::+::$name::<$order, _>(&mut cells(bytes), OUT $(, $argument)*); });
-    )*};
+    ($seen:ident ($($path:tt)*) [$($kind:ty),*] [$($argument:expr),*] $name:ident) => {
+        $seen.refuse(stringify!($name), |bytes| { let _ = $($path)* $name::<$($kind),*>(&mut cells(bytes), OUT $(, $argument)*); });
+    };
 }
 
-/// Calls by name on cells and a window, and a memory beside them with a window.
+/// A call on cells and a window, and a memory beside them with a window.
 macro_rules! on_two_cells {
-    ($seen:ident; $($path:ident)::+ <$($kind:ty),+> $(, $argument:expr)*; $($name:ident)*) => {$(
+    ($seen:ident ($($path:tt)*) [$($kind:ty),*] [$($argument:expr),*] $name:ident) => {
         for (left, right) in [(OUT, IN), (IN, OUT)] {
             $seen.refuse(stringify!($name), |bytes| {
                 let mut beside = BYTES;
-                let _ = $($path)::+::$name::<$($kind),+>(&mut cells(bytes), left, &mut Exclusive::new(&mut beside), right $(, $argument)*);
-                assert_eq!(beside, BYTES);
+                let _ = $($path)* $name::<$($kind),*>(&mut cells(bytes), left, &mut Exclusive::new(&mut beside), right $(, $argument)*);
             });
         }
-    )*};
+    };
 }
 
-/// Calls by name on a slice and a window, with the same further arguments.
-macro_rules! on_slices {
-    ($seen:ident; $window:expr $(, $argument:expr)*; $($name:ident)*) => {$(
-        $seen.refuse(stringify!($name), |bytes| { let _ = $name::<u8, Lsb0>(bytes, $window $(, $argument)*); });
-    )*};
+/// A call on a slice, and on what follows it.
+macro_rules! on_slice {
+    ($seen:ident ($($path:tt)*) [$($kind:ty),*] [$($argument:expr),*] $name:ident) => {
+        $seen.refuse(stringify!($name), |bytes| { let _ = $($path)* $name::<$($kind),*>(bytes $(, $argument)*); });
+    };
 }
 
-/// Calls by name on two slices and their windows.
+/// A call on two slices and their windows.
 macro_rules! on_two_slices {
-    ($seen:ident; <$($kind:ty),+> $(, $argument:expr)*; $($name:ident)*) => {$(
+    ($seen:ident () [$($kind:ty),*] [$($argument:expr),*] $name:ident) => {
         for (left, right) in [(OUT, IN), (IN, OUT)] {
             $seen.refuse(stringify!($name), |bytes| {
                 let mut beside = BYTES;
-                let _ = $name::<$($kind),+>(bytes, left, &mut beside, right $(, $argument)*);
-                assert_eq!(beside, BYTES);
+                let _ = $name::<$($kind),*>(bytes, left, &mut beside, right $(, $argument)*);
             });
         }
-    )*};
-}
-
-/// Calls of `in_place` by name on a range.
-macro_rules! in_places {
-    ($seen:ident; $range:expr $(, $argument:expr)*; $($name:ident)*) => {$(
-        $seen.refuse(stringify!($name), |bytes| { let _ = in_place::$name::<u8, Msb0>(bytes, $range $(, $argument)*); });
-    )*};
+    };
 }
 
 fn elements_and_orders(seen: &mut Seen) {
@@ -190,12 +187,13 @@ fn parts_of_cells(seen: &mut Seen) {
         load_parts(|_bytes| words::load_parts::<Lsb0, _>(&mut Shared::new(&words_), long));
         store_parts(|_bytes| words::store_parts::<Lsb0, _>(&mut Exclusive::new(&mut [0u64; 3]), long, 1));
     );
-    on_cells!(seen; words<Lsb0>; load_parts count count_zeros invert);
-    on_cells!(seen; words<Lsb0>, 1; store_parts);
-    on_cells!(seen; words<Lsb0>, true; fill bits_scan_first bits_scan_last);
-    on_two_cells!(seen; words<Lsb0, _, _>; copy equal);
-    on_two_cells!(seen; words<Lsb0, _, _>, BitOp::And; combine);
-    on_two_cells!(seen; words<Lsb0, _, _>; swap);
+    each!(on_cells seen (words::) [Lsb0, _] []; load_parts);
+    each!(on_cells seen (engine::) [Lsb0, _] []; count count_zeros invert);
+    each!(on_cells seen (words::) [Lsb0, _] [1]; store_parts);
+    each!(on_cells seen (engine::) [Lsb0, _] [true]; fill bits_scan_first bits_scan_last);
+    each!(on_two_cells seen (words::) [Lsb0, _, _] []; copy equal);
+    each!(on_two_cells seen (words::) [Lsb0, _, _] [BitOp::And]; combine);
+    each!(on_two_cells seen (words::) [Lsb0, _, _] []; swap);
     refused!(seen;
         copy_within(|bytes| words::copy_within::<Lsb0, _>(&mut cells(bytes), OUT, 0, 1, 2));
         copy_within(|bytes| words::copy_within::<Lsb0, _>(&mut cells(bytes), IN, 0, 10, 11));
@@ -203,17 +201,16 @@ fn parts_of_cells(seen: &mut Seen) {
 }
 
 fn windows_of_cells(seen: &mut Seen) {
-    on_cells!(seen; engine<Lsb0>, 0; get_bit rotate_left rotate_right shift_start shift_end);
-    on_cells!(seen; engine<Lsb0>, 0, true; replace_bit);
-    on_cells!(seen; engine<Lsb0>, 0, 1; swap_bits);
-    on_cells!(seen; engine<Lsb0>; bits_reverse any all reverse);
-    on_cells!(seen; words<Lsb0>; reverse);
-    on_two_cells!(seen; engine<Lsb0, Msb0, _, _>; bits_copy bits_swap bits_eq compare);
-    on_two_cells!(seen; engine<Lsb0, Msb0, _, _>, BitOp::Or; bits_op);
-    on_two_cells!(seen; engine<HiLo, _, _>; elements_copy elements_swap elements_eq starts_with ends_with contains);
-    on_two_cells!(seen; engine<HiLo, _, _>, BitOp::Or; elements_op);
-    on_two_cells!(seen; engine::lsb0<_, _>; block_copy block_swap block_eq);
-    on_two_cells!(seen; engine::lsb0<_, _>, BitOp::Or; block_op);
+    each!(on_cells seen (engine::) [Lsb0, _] [0]; get_bit rotate_left rotate_right shift_start shift_end);
+    each!(on_cells seen (engine::) [Lsb0, _] [0, true]; replace_bit);
+    each!(on_cells seen (engine::) [Lsb0, _] [0, 1]; swap_bits);
+    each!(on_cells seen (engine::) [Lsb0, _] []; bits_reverse any all reverse);
+    each!(on_two_cells seen (engine::) [Lsb0, Msb0, _, _] []; bits_copy bits_swap bits_eq compare);
+    each!(on_two_cells seen (engine::) [Lsb0, Msb0, _, _] [BitOp::Or]; bits_op);
+    each!(on_two_cells seen (engine::) [HiLo, _, _] []; elements_copy elements_swap elements_eq starts_with ends_with contains);
+    each!(on_two_cells seen (engine::) [HiLo, _, _] [BitOp::Or]; elements_op);
+    each!(on_two_cells seen (engine::lsb0::) [_, _] []; block_copy block_swap block_eq);
+    each!(on_two_cells seen (engine::lsb0::) [_, _] [BitOp::Or]; block_op);
     refused!(seen;
         get_bit(|bytes| engine::get_bit::<Lsb0, _>(&mut cells(bytes), IN, 20));
         replace_bit(|bytes| engine::replace_bit::<Lsb0, _>(&mut cells(bytes), IN, 20, true));
@@ -227,6 +224,7 @@ fn windows_of_cells(seen: &mut Seen) {
         bits_copy_within(|bytes| engine::bits_copy_within::<Lsb0, _>(&mut cells(bytes), IN, 9, 21, 0));
         block_copy_within(|bytes| engine::msb0::block_copy_within(&mut cells(bytes), OUT, 0, 1, 2));
         block_copy_within(|bytes| engine::msb0::block_copy_within(&mut cells(bytes), IN, 2, 1, 0));
+        words_reverse(|bytes| words::reverse::<Lsb0, _>(&mut cells(bytes), OUT));
         block_reverse(|bytes| Lsb0::block_reverse(&mut cells(bytes), OUT));
         find_first(|bytes| Lsb0::find_first(&mut cells(bytes), OUT, true));
         scan_first(|bytes| HiLo::scan_first(&mut cells(bytes), OUT, true));
@@ -257,24 +255,24 @@ fn windows_of_cells(seen: &mut Seen) {
 }
 
 fn windows_of_slices(seen: &mut Seen) {
-    on_slices!(seen; OUT; count_in invert_in any_in all_in reverse_in domain_of domain_mut_of);
-    on_slices!(seen; OUT, true; fill_in find_first_in find_last_in);
-    on_slices!(seen; OUT, 0; bit_in rotate_left_in rotate_right_in shift_start_in shift_end_in);
-    on_slices!(seen; IN, 21; bit_in rotate_left_in rotate_right_in shift_start_in shift_end_in);
-    on_slices!(seen; OUT, 0, true; set_in replace_in);
-    on_slices!(seen; IN, 20, true; set_in replace_in);
-    on_slices!(seen; OUT, 0, 1; swap_in);
-    on_slices!(seen; IN, 20, 1; swap_in);
-    on_slices!(seen; IN, 1, 20; swap_in);
-    on_slices!(seen; OUT, 0..1, 2; copy_within_in swap_within_in);
-    on_slices!(seen; IN, 0..21, 2; copy_within_in swap_within_in);
-    on_slices!(seen; IN, 0..5, 4; swap_within_in);
-    on_slices!(seen; OUT, 0..1, 2, BitOp::Xor; combine_within_in);
-    on_slices!(seen; IN, 0..11, 10, BitOp::Xor; combine_within_in);
-    on_two_slices!(seen; <u8, Lsb0, u8, Msb0>; eq_in compare_in copy_from_in starts_with_in ends_with_in swap_with_in contains_in);
-    on_two_slices!(seen; <u8, Lsb0, u8, Msb0>, BitOp::And; combine_in);
-    on_two_slices!(seen; <u8, Lsb0>; eq_block_in compare_block_in copy_from_block_in swap_with_block_in);
-    on_two_slices!(seen; <u8, Lsb0>, BitOp::And; combine_block_in);
+    each!(on_slice seen () [u8, Lsb0] [OUT]; count_in invert_in any_in all_in reverse_in domain_of domain_mut_of);
+    each!(on_slice seen () [u8, Lsb0] [OUT, true]; fill_in find_first_in find_last_in);
+    each!(on_slice seen () [u8, Lsb0] [OUT, 0]; bit_in rotate_left_in rotate_right_in shift_start_in shift_end_in);
+    each!(on_slice seen () [u8, Lsb0] [IN, 21]; bit_in rotate_left_in rotate_right_in shift_start_in shift_end_in);
+    each!(on_slice seen () [u8, Lsb0] [OUT, 0, true]; set_in replace_in);
+    each!(on_slice seen () [u8, Lsb0] [IN, 20, true]; set_in replace_in);
+    each!(on_slice seen () [u8, Lsb0] [OUT, 0, 1]; swap_in);
+    each!(on_slice seen () [u8, Lsb0] [IN, 20, 1]; swap_in);
+    each!(on_slice seen () [u8, Lsb0] [IN, 1, 20]; swap_in);
+    each!(on_slice seen () [u8, Lsb0] [OUT, 0..1, 2]; copy_within_in swap_within_in);
+    each!(on_slice seen () [u8, Lsb0] [IN, 0..21, 2]; copy_within_in swap_within_in);
+    each!(on_slice seen () [u8, Lsb0] [IN, 0..5, 4]; swap_within_in);
+    each!(on_slice seen () [u8, Lsb0] [OUT, 0..1, 2, BitOp::Xor]; combine_within_in);
+    each!(on_slice seen () [u8, Lsb0] [IN, 0..11, 10, BitOp::Xor]; combine_within_in);
+    each!(on_two_slices seen () [u8, Lsb0, u8, Msb0] []; eq_in compare_in copy_from_in starts_with_in ends_with_in swap_with_in contains_in);
+    each!(on_two_slices seen () [u8, Lsb0, u8, Msb0] [BitOp::And]; combine_in);
+    each!(on_two_slices seen () [u8, Lsb0] []; eq_block_in compare_block_in copy_from_block_in swap_with_block_in);
+    each!(on_two_slices seen () [u8, Lsb0] [BitOp::And]; combine_block_in);
     refused!(seen;
         fill_with_in(|bytes| fill_with_in::<u8, Lsb0, _>(bytes, OUT, |_| true));
         for_each_in(|bytes| for_each_in::<u8, Lsb0, _>(bytes, OUT, |_, bit| !bit));
@@ -288,7 +286,7 @@ fn windows_of_slices(seen: &mut Seen) {
 struct Flip;
 
 impl Edit<u8, Msb0> for Flip {
-    fn edit(&self, view: &mut View<'_>) {
+    fn edit(&self, view: &mut Written<'_>) {
         view.invert();
     }
 }
@@ -296,18 +294,18 @@ impl Edit<u8, Msb0> for Flip {
 fn ranges_in_place(seen: &mut Seen) {
     let beside = BYTES;
     let other = shown(&beside);
-    in_places!(seen; 40..49; any all not_any not_all some count_ones count_zeros first_one last_one first_zero last_zero);
-    in_places!(seen; 40..49; leading_ones leading_zeros trailing_ones trailing_zeros invert reverse);
-    in_places!(seen; 48; get);
-    in_places!(seen; 48, true; set replace);
-    in_places!(seen; usize::MAX, true; set replace);
-    in_places!(seen; 48, 0; swap);
-    in_places!(seen; 0, 48; swap);
+    each!(on_slice seen (in_place::) [u8, Msb0] [40..49]; any all not_any not_all some count_ones count_zeros first_one last_one first_zero last_zero);
+    each!(on_slice seen (in_place::) [u8, Msb0] [40..49]; leading_ones leading_zeros trailing_ones trailing_zeros invert reverse);
+    each!(on_slice seen (in_place::) [u8, Msb0] [48]; get);
+    each!(on_slice seen (in_place::) [u8, Msb0] [48, true]; set replace);
+    each!(on_slice seen (in_place::) [u8, Msb0] [usize::MAX, true]; set replace);
+    each!(on_slice seen (in_place::) [u8, Msb0] [48, 0]; swap);
+    each!(on_slice seen (in_place::) [u8, Msb0] [0, 48]; swap);
     #[allow(clippy::reversed_empty_ranges)]
-    in_places!(seen; 9..8, 0; rotate_left rotate_right shift_start shift_end);
-    in_places!(seen; 8..16, 9; rotate_left rotate_right shift_start shift_end);
-    in_places!(seen; 8..20, 37; copy_within swap_within and_within or_within xor_within);
-    in_places!(seen; 8..20, 9; swap_within);
+    each!(on_slice seen (in_place::) [u8, Msb0] [9..8, 0]; rotate_left rotate_right shift_start shift_end);
+    each!(on_slice seen (in_place::) [u8, Msb0] [8..16, 9]; rotate_left rotate_right shift_start shift_end);
+    each!(on_slice seen (in_place::) [u8, Msb0] [8..20, 37]; copy_within swap_within and_within or_within xor_within);
+    each!(on_slice seen (in_place::) [u8, Msb0] [8..20, 9]; swap_within);
     refused!(seen;
         fill(|bytes| in_place::fill::<u8, Msb0>(bytes, 40..49, true));
         insert(|bytes| in_place::insert::<u8, Msb0>(bytes, 48, 0, true));
