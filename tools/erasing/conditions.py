@@ -111,7 +111,7 @@ class Conditions:
         if base not in self.kinds and base != "self":
             raise Strange()
         rust = ".".join([self.names.get(base, base)] + name.split(".")[1:])
-        if not re.fullmatch(r"[A-Z]\w?", self.kinds.get(name, "")):
+        if not re.fullmatch(r"[A-Z]\w?|&(mut )?[A-Z]", self.kinds.get(name, "").replace("&mut", "&mut ")) and name != "self":
             self.values[name] = rust
         return f"({rust} as usize)" if self.kinds.get(name) == "u32" else rust
 

@@ -248,7 +248,7 @@ fn windows_of_cells(seen: &mut Seen) {
     let mut wide = [0u128; 2];
     refused!(seen;
         load_le(|_bytes| Msb0::load_le(&mut Shared::new(&wide), long));
-        load_be(|_bytes| HiLo::load_be(&mut Shared::new(&wide), long));
+        load_be(|_bytes| Lsb0::load_be(&mut Shared::new(&wide), long));
         store_le(|_bytes| Msb0::store_le(&mut Exclusive::new(&mut wide), long, 1));
         store_be(|_bytes| Lsb0::store_be(&mut Exclusive::new(&mut wide), long, 1));
     );
