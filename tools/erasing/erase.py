@@ -171,7 +171,7 @@ class Eraser:
 
     def item(self, item, outer):
         if item.kind == "inner doc":
-            return item.lead + item.docs[0].text
+            return item.lead + self.linked(item.docs[0].text)
         if item.kind == "inner attribute":
             if self.attribute(item.attributes[0]):
                 self.refuse(item.line, "an attribute of the file that isn't known")
@@ -200,8 +200,14 @@ class Eraser:
                 line, is_code = line + ("" if is_code else "ignore"), not is_code
             elif is_code:
                 line = line.replace("assert!(rt; ", "assert!(").replace("rt.alloc()", "Global").replace(".clone()?", ".clone()")
-            made.append(re.sub(r"\[`crate::([\w:]+)`\]", rf"[`\1`]({self.home}::\1)", line))
+            made.append(self.linked(line))
         return made
+
+    def linked(self, line):
+        """A line of documents, whose links are to this package's modules."""
+        homes = {"crate": self.home, **self.paths}
+        line = re.sub(r"\[`(crate|bitvec_\w+)::([\w:]+)`\](?!\()", lambda it: f"[`{it[2]}`]({homes.get(it[1], it[1])}::{it[2]})", line)
+        return re.sub(r"\]\((crate|bitvec_\w+)::(?!proved)", lambda it: f"]({homes.get(it[1], it[1])}::", line)
 
     def public(self, item):
         """Who may name an item: `pub(crate)` means its crate, which is a module here."""
