@@ -377,26 +377,36 @@ class Model:
         self.entries += sorted((it for it in self.words.values() if it in reached), key=lambda it: (it.kind == "set", it.scope.crate != BITVEC and it.kind == "set"))
         self.entries += sorted((it for it in self.std.values() if it in reached), key=lambda it: it.name.lower())
 
-    # ---- edits
+    # ---- wrong bodies
 
     def add_edits(self):
-        """The must-fail edits, each with the row of docs/WRONG_BODIES.md, or with its own comment."""
+        """The wrong bodies: edits and patches, each with its row of docs/WRONG_BODIES.md, or with its own comment."""
         page = TOP / "docs/WRONG_BODIES.md"
         rows = re.findall(r"^\| *([^|]+?) *\| *([^|]+?) *\| *([^|]+?) *\|$", page.read_text(), re.M) if page.exists() else []
         told = {}
         for what, where, why in rows:
-            for crate, name in re.findall(r"`(\w+)/(\w+)`", where):
-                told[crate, name] = [f"{what}. Refused by {why}."]
-        folders = {"crates/*/must-fail/*.edit": "tried by each run of the gate", "compile_fail/edits/*/*.edit": "tried by hand and by a release"}
-        for pattern, how in folders.items():
+            for crate, name in re.findall(r"`(\w+)/(\w+)(?:\.patch)?`", where):
+                how = "Shown by" if crate == "mutants" else "Refused by"
+                told[crate, name] = [f"{what}.", f"{how} {why}."]
+        for kind, pattern in WRONG_BODIES.items():
             for path in sorted(TOP.glob(pattern)):
-                crate = path.parent.parent.name if path.parent.name == "must-fail" else path.parent.name
-                lines = path.read_text().splitlines()
-                own = [line.lstrip("-# ") for line in lines if line.startswith(("#", "--"))]
-                code = [line for line in lines if not line.startswith(("#", "--"))]
-                self.add(Entry("edit", path.stem, WRONG, f"{short(crate)}.{path.stem}", code, own or told.get((crate, path.stem), []), None, f"`{crate}`, {how}"))
+                crate = path.parent.parent.name if kind == "edit" else path.parent.name
+                self.add_edit(kind, crate, path, told.get((crate, path.stem), []))
+
+    def add_edit(self, kind, crate, path, told):
+        lines = path.read_text().splitlines()
+        if kind == "mutant":
+            own, code = [], [line for line in lines if line.startswith(("+++", "-", "+", "@@")) and not line.startswith("---")]
+            told = told or [f"Shown by `{lines[0]}`."]
+            where = f"`compile_fail/mutants/{path.name}`"
+        else:
+            own = [line.lstrip("-# ") for line in lines if line.startswith(("#", "--"))]
+            code = [line for line in lines if not line.startswith(("#", "--"))]
+            where = f"`{path.relative_to(TOP).as_posix()}`"
+        self.add(Entry(kind, path.stem, WRONG, f"{short(crate)}.{path.stem}", code, own or told, None, where))
 
 
+WRONG_BODIES = {"edit": "crates/*/must-fail/*.edit", "hand": "compile_fail/edits/*/*.edit", "mutant": "compile_fail/mutants/*.patch"}
 NAME = re.compile(r"(?<![\w.'])[A-Za-z_][\w']*(?:-[\w']+)*")
 BOUNDS = re.compile(r"(?:: |\+ |\btrait )([A-Z]\w+)")
 GHOST = re.compile(r"(?<=\bSelf\.)[a-z][\w-]*|(?<=\b[A-Z]\.)[A-Za-z][\w-]*")

@@ -8,7 +8,13 @@ from referring.model import GHOST, NAME
 from referring.notions import NAMES, NOTIONS, SETS, STD, WRONG
 
 MADE = "<!-- made by tools/reference from the sources: change these, and run it again -->\n"
-SECTIONS = {"call": "Calls", "word": "Words", "law": "Laws", "set": "Sets", "edit": "Edits"}
+SECTIONS = {"call": "Calls", "word": "Words", "law": "Laws", "set": "Sets"}
+# Of the page of wrong bodies: what each kind is.
+WRONG_SECTIONS = {
+    "edit": ("Edits of the gate", "The prover has to refuse each, in every run of the gate."),
+    "hand": ("Edits tried by hand", "The prover has to refuse each; `compile_fail/edits.sh` tries them."),
+    "mutant": ("Mutants", "Every clause admits these, or a test shows them more cheaply; `compile_fail/mutants.sh` tries that the test fails."),
+}
 LINK = re.compile(r"\[`([^`\]]+)`\](?!\()")
 TOKEN = re.compile(f"{NAME.pattern}|{GHOST.pattern}")
 # How many names a list has before it is folded.
@@ -90,7 +96,7 @@ def body(model, entry):
         parts.append(code(model, entry))
     if entry.kind == "call":
         parts.append(documents(model, entry.text))
-    elif entry.kind == "edit":
+    elif entry.kind in WRONG_SECTIONS:
         parts.append(" ".join(entry.text))
     else:
         parts.append(sentence(entry.text, entry.bound | {entry.name}))
@@ -103,7 +109,7 @@ def body(model, entry):
         users = [it for it in model.users.get(entry, ()) if it.kind == kind and not (entry.kind == "set" and kind == "set")]
         if users and entry.kind != "call" and entry.page is not STD:
             parts.append(f"{called} that name it: {listed(users)}")
-    parts.append(f"<small>{entry.where}</small>" if entry.kind != "edit" else entry.where)
+    parts.append(f"<small>{entry.where}</small>")
     return [it for it in parts if it.strip()]
 
 
@@ -146,11 +152,23 @@ def page(model, notion, entries):
     return "\n".join(text)
 
 
+def wrong_page(model, entries):
+    """The page of wrong bodies, by who tries them."""
+    text = [head(WRONG)]
+    for kind, (title, about) in WRONG_SECTIONS.items():
+        some = [it for it in entries if it.kind == kind]
+        text += [f"## {title}\n", f"{about}\n"] if some else []
+        for entry in some:
+            text.append(f'<a id="{entry.anchor}"></a>\n\n### `{entry.name}`\n')
+            text += [it + "\n" for it in body(model, entry)]
+    return "\n".join(text)
+
+
 def names_page(model):
     """Each name, with what it is and where."""
     rows = {}
     for entry in model.entries:
-        if entry.kind != "edit":
+        if entry.kind not in WRONG_SECTIONS:
             last = entry.name.rpartition("::")[2]
             rows.setdefault((last[0].lower() if last[0].isascii() else "other", last.lower(), last), []).append(entry)
     text, letter = [head(NAMES)], None
@@ -169,9 +187,14 @@ def index(model, by_page):
             "A name in a head or a statement is a link to where it is defined. [Names](names.md) has all of them by the alphabet.\n"]
     for notion in [*NOTIONS, SETS, WRONG, STD]:
         kinds = [it.kind for it in by_page.get(notion.name, ())]
-        counts = ", ".join(f"{kinds.count(kind)} {title.lower()}" for kind, title in SECTIONS.items() if kind in kinds)
+        titles = {**SECTIONS, **{kind: title for kind, (title, _) in WRONG_SECTIONS.items()}}
+        counts = ", ".join(counted(kinds.count(kind), title.lower()) for kind, title in titles.items() if kind in kinds)
         text.append(f"- [{notion.title}]({notion.name}.md): {notion.about} ({counts})")
     return "\n".join(text) + "\n"
+
+
+def counted(number, title):
+    return f"{number} {title[:-1] if number == 1 else title}"
 
 
 def pages(model):
@@ -184,7 +207,8 @@ def pages(model):
     by_page = {}
     for entry in model.entries:
         by_page.setdefault(entry.page.name, []).append(entry)
-    found = {f"{notion.name}.md": page(model, notion, by_page.get(notion.name, ())) for notion in [*NOTIONS, SETS, WRONG, STD]}
+    found = {f"{notion.name}.md": page(model, notion, by_page.get(notion.name, ())) for notion in [*NOTIONS, SETS, STD]}
+    found["wrong-bodies.md"] = wrong_page(model, by_page.get(WRONG.name, ()))
     found["names.md"] = names_page(model)
     found["README.md"] = index(model, by_page)
     return {file: re.sub(r"\n{3,}", "\n\n", text).rstrip() + "\n" for file, text in found.items()}
