@@ -154,7 +154,7 @@ class Model:
     """The entries, and how names lead to them."""
 
     def __init__(self, sources):
-        self.sources, self.entries, self.words, self.types, self.calls, self.std, self.members = sources, [], {}, {}, {}, {}, {}
+        self.sources, self.entries, self.words, self.types, self.calls, self.std, self.members, self.paths = sources, [], {}, {}, {}, {}, {}, {}
         self.add_calls()
         self.add_words()
         self.link()
@@ -168,22 +168,26 @@ class Model:
 
     def add_calls(self):
         shown = {}
-        for (crate, _), uses in self.sources.uses.items():
+        for (crate, file), uses in self.sources.uses.items():
             if crate == BITVEC:
                 for is_public, path, name, alias in uses:
                     target = path.split("::")[0]
                     if not is_public or target not in self.sources.crates:
                         continue
                     item = self.sources.item_of(target, name)
+                    if item:
+                        self.paths.setdefault((item.crate, item.name), []).append(f"bitvec::{file}::{alias}")
                     for it in [item] if item else self.sources.items.get((target, name), ()):
                         if it.is_public and it.kind not in ("impl", "mod"):
                             shown.setdefault((it.crate, it.file, it.name), it)
         for is_public, path, name, alias in self.sources.uses[RECORDS, "lib"]:
             item = self.sources.item_of(RECORDS, name) if is_public else None
             if item:
+                self.paths.setdefault((item.crate, item.name), []).append(f"{RECORDS}::{alias}")
                 shown.setdefault((item.crate, item.file, item.name), item)
         for item in self.sources.items[RECORDS, "bits"]:
             if item.is_public and item.kind == "fn":
+                self.paths.setdefault((item.crate, item.name), []).append(f"{RECORDS}::bits::{item.name}")
                 shown.setdefault((item.crate, item.file, item.name), item)
         order = {crate: number for number, crate in enumerate(self.sources.crates)}
         self.shown = {(item.crate, item.name) for item in shown.values()}
@@ -239,9 +243,11 @@ class Model:
 
     def call(self, item, name, code, docs, anchor=None):
         page = page_of(item.crate, item.file)
-        where = f"`{item.crate}`, `src/{item.file}.rt`"
+        paths = self.paths.get((item.crate, name), [])
+        paths = [it for it in paths if "::prelude::" in it] or paths
+        where = ", ".join([*(f"`use {it}`" for it in paths[:1]), f"`{item.crate}`", f"`src/{item.file}.rt`"])
         anchor = f"{short(item.crate)}.{anchor or item.name}"
-        code = [line for line in code if not line.strip().startswith(("ghost inside", "ghost bounded"))] if item.kind == "struct" else code
+        code = shown_fields(code) if item.kind == "struct" else code
         return self.add(Entry("call", name, page, anchor, code, docs, item, where))
 
     def trait_head(self, item):
@@ -250,6 +256,13 @@ class Model:
         for name, notes, text in item.ghosts:
             lines += [f"    // {line}" for line in notes] + [f"    {line}" for line in text]
         return lines
+
+    def traits_of(self, item):
+        """The impls of traits for a type."""
+        for items in self.sources.items.values():
+            for impl in items:
+                if impl.kind == "impl" and impl.of[1] and impl.of[0] == item.name and self.is_same(impl, item):
+                    yield impl
 
     def impls_of(self, item):
         """What the library's types give for the members of a trait that only contracts name, where it is short."""
@@ -263,7 +276,7 @@ class Model:
     # ---- words, laws and sets
 
     def add_words(self):
-        passed = self.passed_on()
+        self.named = self.names_in_bitvec()
         for (crate, file), reader in self.sources.specs.items():
             is_worked = file.endswith("Examples")
             for word in reader.words:
@@ -271,8 +284,27 @@ class Model:
                     continue
                 page = SETS if word.kind == "set" else page_of(crate, file)
                 entry = Entry(word.kind, word.name, page, f"{short(crate)}.{file}.{word.name}", self.code_of(word), word.comment, word,
-                              f"`{crate}`, `specs/{file.replace('.', '/')}.antt`", bound=bound_in(word), laws=word.laws)
+                              self.where_of(crate, file, word.name), bound=bound_in(word), laws=word.laws)
                 self.words[crate, file, word.name] = entry
+
+    def names_in_bitvec(self):
+        """By which path of `bitvec` a file, or a word of a file, is named: those that its specs/ pass on."""
+        found = {}
+        for (crate, file), reader in self.sources.specs.items():
+            if crate == BITVEC:
+                for path, only, alias in reader.passed:
+                    called = alias or path.rpartition(".")[2]
+                    found[path, only] = f"Rattle.bitvec.specs.{called if file == 'Lib' and only is None else file}"
+        return found
+
+    def where_of(self, crate, file, name):
+        """By which import callers name a word or a law, and where it stands."""
+        path = f"Rattle.{crate}.specs.{file}"
+        if (crate, file) == (BITVEC, "Laws"):
+            return f"`using(bitvec::specs::Laws::{name})`"
+        if crate not in (BITVEC, RECORDS):
+            path = self.named.get((path, None)) or self.named.get((path, name))
+        return ", ".join([f"`ghost use {path}.{{{name}}}`"] * bool(path) + [f"`{crate}`", f"`specs/{file.replace('.', '/')}.antt`"])
 
     def passed_on(self):
         """The files of laws that callers may name: those that `bitvec` passes on, and those of records."""
@@ -411,6 +443,16 @@ NAME = re.compile(r"(?<![\w.'])[A-Za-z_][\w']*(?:-[\w']+)*")
 BOUNDS = re.compile(r"(?:: |\+ |\btrait )([A-Z]\w+)")
 GHOST = re.compile(r"(?<=\bSelf\.)[a-z][\w-]*|(?<=\b[A-Z]\.)[A-Za-z][\w-]*")
 BOUND = re.compile(r"[({]((?:[\w'.]+ )+): |λ ((?:[\w'() :]+?))\. ")
+
+
+def shown_fields(head):
+    """The head of a struct with its public fields, and a word in place of the others."""
+    if not head[0].endswith("{"):
+        return [re.sub(r"\((?!pub).*\);", "(..);", line) for line in head]
+    fields = [line for line in head[1:-1] if line.strip()]
+    shown = [line for number, line in enumerate(fields) if line.strip().startswith("pub ") or line.strip().startswith("///")
+             and next((it for it in fields[number:] if not it.strip().startswith("///")), "").strip().startswith("pub ")]
+    return [head[0], *shown, *["    .."] * (len(shown) < len(fields)), "}"] if shown else [head[0].rstrip(" {") + " { .. }"]
 
 
 def broken(line):

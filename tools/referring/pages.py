@@ -100,8 +100,10 @@ def body(model, entry):
         parts.append(" ".join(entry.text))
     else:
         parts.append(sentence(entry.text, entry.bound | {entry.name}))
-    if entry.kind == "call" and getattr(entry.scope, "kind", "") == "trait":
+    if entry.kind == "call" and entry.scope.kind == "trait":
         parts += impls(model, entry)
+    if entry.kind == "call" and entry.scope.kind in ("struct", "enum"):
+        parts += traits(model, entry)
     parts += [f"Worked: `{it}`" for it in entry.worked]
     if entry.kind == "set":
         parts.append("Laws: " + set_members(model, entry))
@@ -111,6 +113,19 @@ def body(model, entry):
             parts.append(f"{called} that name it: {listed(users)}")
     parts.append(f"<small>{entry.where}</small>")
     return [it for it in parts if it.strip()]
+
+
+def traits(model, entry):
+    """Which traits a type has."""
+    found = {}
+    for impl in model.traits_of(entry.scope):
+        target = model.target(impl, impl.of[1])
+        found[impl.of[1]] = f"[`{impl.of[1]}`]({target.link})" if target in model.shown_entries else f"`{impl.of[1]}`"
+    for attribute in entry.scope.attributes:
+        derived = re.match(r"#\[derive\((.*)\)\]", attribute)
+        found.update({name: f"`{name}`" for name in derived[1].replace(" ", "").split(",") if name} if derived else {})
+    if found:
+        yield f"Traits: {', '.join(found[name] for name in sorted(found))}."
 
 
 def impls(model, entry):
