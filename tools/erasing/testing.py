@@ -137,7 +137,7 @@ class Tester:
             item.public = [word("pub(in crate)")]
             item.attributes = [it for it in item.attributes if "hidden" not in text(it.inner)]
         is_told = kind is None and item.is_public or not hidden and (kind == "trait" or is_inherent)
-        writer = Writer(eraser, item, is_told)
+        writer = Writer(eraser, item, is_told, self.tests)
         if not hidden and (kind != "trait" or item.body is not None):
             writer.test(stated, trait_of(eraser, outer), (outer.name, item.name) in table.DELEGATED, self.known.told)
         is_foreign = kind == "impl" and outer.name and outer.name not in self.known.required
@@ -152,7 +152,7 @@ class Tester:
 
     def wrapper(self, eraser, item):
         """A free function for users: it tests the conditions, and calls the one that has the body; None where nothing is to be tested."""
-        writer = Writer(eraser, dataclasses.replace(item, lead="    ", attributes=[it for it in item.attributes if "deprecated" in text(it.inner)]), True)
+        writer = Writer(eraser, dataclasses.replace(item, lead="    ", attributes=[it for it in item.attributes if "deprecated" in text(it.inner)]), True, False)
         writer.test(item, "", False, self.known.told)
         return writer.wrapper() if writer.tests else None
 
@@ -168,8 +168,8 @@ def trait_of(eraser, outer):
 class Writer:
     """Writes one function. `is_told` says whether its documents have its contract."""
 
-    def __init__(self, eraser, item, is_told):
-        self.eraser, self.item, self.is_told = eraser, item, is_told
+    def __init__(self, eraser, item, is_told, is_inlined):
+        self.eraser, self.item, self.is_told, self.is_inlined = eraser, item, is_told, is_inlined
         self.indent = item.lead.rpartition("\n")[2]
         self.tests, self.wrapped = [], set()
 
@@ -198,14 +198,14 @@ class Writer:
         signature = self.eraser.signature(self.item, self.item.name)
         if self.item.body is None:
             return self.head() + signature + ";"
-        return self.head(*["#[track_caller]"] if self.tests else []) + signature + " {" + self.tested() + self.eraser.body(self.item) + "}"
+        return self.head(*self.hints(), *["#[track_caller]"] if self.tests else []) + signature + " {" + self.tested() + self.eraser.body(self.item) + "}"
 
     def two(self, body=None):
         """The method that tests, and the one that has the body. `body` is the first one's where it tests by what it calls."""
         signature = self.unmuted(self.eraser.signature(self.item, self.item.name))
-        first = self.head(*[] if self.inlining() else ["#[inline]"], "#[track_caller]") + signature + " {" + self.tested()
+        first = self.head(*self.hints(), "#[track_caller]") + signature + " {" + self.tested()
         first += body + "}" if body else f"\n{self.indent}    {self.call(self.inner())}\n{self.indent}}}"
-        return first + self.second(self.inlining()) + " {" + self.eraser.body(self.item) + "}"
+        return first + self.second([*self.inlining(), *self.hints()]) + " {" + self.eraser.body(self.item) + "}"
 
     def dispatched(self):
         """A method of a trait that its types may bring, and the one that the library calls, which is the same where a type
@@ -223,6 +223,10 @@ class Writer:
 
     def inlining(self):
         return [it for it in map(self.eraser.attribute, self.item.attributes) if it and it.startswith("#[inline")]
+
+    def hints(self):
+        """What lets rustc inline the function in other crates, as the kit's compiler does."""
+        return ["#[inline]"] if self.is_inlined and not self.inlining() else []
 
     def second(self, attributes):
         """The words of the method that the library calls."""
