@@ -101,13 +101,14 @@ fn edit_by_all(bytes: &mut [u8; 2]) {
     invert_chunks(&mut view, 5);
     invert_back_chunks(&mut view, 5);
     invert_whole_chunks(&mut view, 5);
+    view.for_each_rchunk_exact_mut(5, |_index, piece| piece.invert());
 }
 
 #[test]
 fn parts_are_edited_in_place(rt: HostRuntime) {
     let mut bytes = [0x50u8, 0];
     edit_by_all(&mut bytes);
-    assert!(rt; bytes == [0x28, 0x80]);
+    assert!(rt; bytes == [0xD6, 0x7F]);
 }
 
 /// Gives the first byte of a word the ones of another, and its last half those of a view.
