@@ -1,5 +1,5 @@
 -- Words done in turn.
-use Rattle.std.proofs.Common.{◌≡◌, ℕ, ◌+◌, ◌<◌, ◌⊎◌, inl, inr, List, [], ◌++◌, fold, get_or, length, take, Option, Some, None, refl, sym, ap, ◌∙◌, subst, arith, Bool, false, replicate}
+use Rattle.std.proofs.Common.{◌≡◌, ℕ, ◌+◌, ◌<◌, ◌⊎◌, inl, inr, List, [], get_or, length, take, Option, Some, None, refl, sym, ap, ◌∙◌, subst, Bool, false, replicate}
 use Rattle.std.proofs.KnownBytes.{Appends-nil, Appends-trans}
 use Rattle.std.proofs.lemmas.List.Folds.{fold_stuck}
 use Rattle.std.proofs.lemmas.List.Sums.{fold_more}

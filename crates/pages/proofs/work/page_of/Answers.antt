@@ -1,4 +1,4 @@
-use Rattle.std.proofs.Common.{◌≡◌, ◌∙◌, arith, sym}
+use Rattle.std.proofs.Common.{arith, sym}
 use Rattle.std.proofs.lemmas.Grind.{common_steps}
 use Rattle.pages.proofs.NumberLaws.{page_of-none, page_of-some}
 use Rattle.pages.proofs.work.page_of.Goals as goal
