@@ -3,6 +3,7 @@ writes anew, and stops with the file and the line at another."""
 import re
 
 import contracts
+import narrowing
 from tokens import Group, Token, Unknown, is_group, is_mark, is_trivia, is_word, solid, text, word
 
 # Paths of Rattle's std that are another module here, and parts of std that are the same in Rust's `core`.
@@ -166,8 +167,13 @@ class Eraser:
 
     def braced(self, item):
         """The items of a trait, an impl or a module, in their braces."""
-        inner = self.items(item.items, item).strip("\n")
+        inner = self.items(item.items, item).strip("\n") + narrowing.ADDED.get(self.added_to(item), "").rstrip("\n")
         return "{\n" + inner + "\n" + item.lead.rpartition("\n")[2] + "}" if inner.strip() else "{}"
+
+    def added_to(self, item):
+        """The trait that a trait or an impl is, and the type that the impl is for."""
+        kind = self.trait_of(item)[1] if item.kind == "impl" and item.name else []
+        return item.name, next((node.text for node in kind if is_word(node)), None)
 
     def item(self, item, outer):
         if item.kind == "inner doc":
@@ -407,6 +413,8 @@ class Eraser:
 
     def write_fn(self, item, outer):
         self.answered(item, outer)
+        if item.body and (names := narrowing.accessors(item, self.pieces(item.parameters.inner))):
+            item.body = Group("{", narrowing.narrowed(item.body.inner, names), item.body.line, item.body.end)
         return self.tester.function(self, item, outer)
 
     def signature(self, item, name):

@@ -170,7 +170,7 @@ class Package:
 
     def wrappers(self, eraser, items, path):
         """The functions of a file that users call, which test their conditions."""
-        made, eraser.file_words = [], words_of(items)
+        made, eraser.words = [], words_of(items)
         for item in items:
             if item.kind == "fn" and item.is_public and item.name in self.functions[eraser.home]:
                 if wrapper := eraser.tester.wrapper(eraser, item):

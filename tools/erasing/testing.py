@@ -101,7 +101,7 @@ class Tester:
     """Writes the functions of a crate."""
 
     def __init__(self, known):
-        self.known, self.renames, self.tests, self.is_told = known, True, True, False
+        self.known, self.renames, self.tests = known, True, True
 
     def inner_name(self, name, count, before=None):
         """The name in a call of so many arguments, `.name(..)` or, with what stands `before` it, `before::name(..)`."""
@@ -128,104 +128,125 @@ class Tester:
             return stated, stated.hidden and not is_tested or outer.name not in self.known.public
         return item, self.known.is_hidden(item, outer)
 
-    @staticmethod
-    def trait(eraser, outer):
-        """The trait that a method is of, with its parameters."""
-        if outer.kind == "trait":
-            return re.sub(r":[^,>]*", "", eraser.head_of_trait(text(outer.head))[0]).strip()
-        trait = eraser.trait_of(outer)[0]
-        return text(trait).strip() if trait else ""
-
     def function(self, eraser, item, outer):
         """A function as Rust, or its two."""
         stated, hidden = self.stated(eraser, item, outer)
         kind = getattr(outer, "kind", None)
-        if item.hidden and item.is_public and kind == "impl" and not outer.name:
+        is_inherent = kind == "impl" and not outer.name
+        if item.hidden and item.is_public and is_inherent:
             item.public = [word("pub(in crate)")]
             item.attributes = [it for it in item.attributes if "hidden" not in text(it.inner)]
-        self.is_told = False
-        is_delegated = kind == "trait" and (outer.name, item.name) in table.DELEGATED
-        tests = [] if hidden or is_delegated or kind == "trait" and item.body is None else conditions.tests_of(item, stated, eraser, self.trait(eraser, outer))
-        self.is_told = not hidden and (kind == "trait" or kind == "impl" and not outer.name) or kind is None and item.is_public
+        is_told = kind is None and item.is_public or not hidden and (kind == "trait" or is_inherent)
+        writer = Writer(eraser, item, is_told, self.tests)
+        if not hidden and (kind != "trait" or item.body is not None):
+            writer.test(stated, trait_of(eraser, outer), (outer.name, item.name) in table.DELEGATED, self.known.told)
         is_foreign = kind == "impl" and outer.name and outer.name not in self.known.required
-        doubled = not hidden and not is_foreign and bool(stated.requires()) and self.known.inner(*shape(item)) and kind in ("trait", "impl")
-        self.known.told |= {f"{item.name} needs that {test.words}" for test in tests}
-        self.known.told |= {f"{item.name} needs that {test.words}" for test in tests}
-        closures = [] if hidden or kind == "trait" and item.body is None else conditions.closures_of(stated)
-        tests += [line for _, _, line in closures]
-        if doubled:
-            return self.two(eraser, item, tests, is_delegated, {kind for _, kind, _ in closures})
-        return self.one(eraser, item, tests)
-
-    def one(self, eraser, item, tests):
-        signature = eraser.signature(item, item.name)
-        if item.body is None:
-            return eraser.before(item, contract=self.is_told) + signature + ";"
-        written = self.written(item, tests)
-        return eraser.before(item, ["#[track_caller]"] if tests else [], self.is_told) + signature + " {" + written + eraser.body(item) + "}"
-
-    @staticmethod
-    def written(item, tests):
-        indent = item.lead.rpartition("\n")[2] + "    "
-        return "".join("\n" + (indent + test if isinstance(test, str) else conditions.written(test, item.name, indent).rstrip("\n")) for test in tests)
-
-    def two(self, eraser, item, tests, is_delegated, wrapped):
-        """The method that tests, and the one that has the body."""
-        inner, indent = f"{item.name}_proved", item.lead.rpartition("\n")[2]
-        call = self.call(eraser, item, inner, wrapped)
-        hidden = "\n\n" + indent + "#[doc(hidden)]\n" + indent
-        attributes = "".join(it + "\n" + indent for it in map(eraser.attribute, item.attributes) if it and "inline" in it)
-        public = "pub(in crate) " if item.public else ""
-        if item.public:
-            hidden = "\n\n" + indent
-        own = eraser.signature(item, inner)
-        if item.body is None:
-            first = eraser.before(item, contract=self.is_told) + eraser.signature(item, item.name) + ";"
-            return first + hidden + "#[inline(always)]\n" + indent + public + own + " {\n" + indent + "    " + self.call(eraser, item, item.name) + "\n" + indent + "}"
-        outer_words = self.unmuted(eraser.signature(item, item.name))
-        # where there is nothing to test here, the trait's own method is called
-        first = eraser.before(item, ["#[track_caller]"] if attributes else ["#[inline]", "#[track_caller]"], self.is_told)
-        if is_delegated:
+        if hidden or is_foreign or not stated.requires() or not self.known.inner(*shape(item)):
+            return writer.one()
+        if (kind, outer.name, item.name) in {("trait", *it) for it in table.DELEGATED}:
             self.renames = False
-            first += outer_words + " {" + self.written(item, tests) + eraser.body(item) + "}"
+            body = eraser.body(item)
             self.renames = True
-        else:
-            first += outer_words + " {" + self.written(item, tests) + "\n" + indent + "    " + call + "\n" + indent + "}"
-        return first + hidden + attributes + public + own + " {" + eraser.body(item) + "}"
-
-    @staticmethod
-    def unmuted(signature):
-        return signature.replace("(mut ", "(").replace(" mut self", " self").replace(", mut ", ", ").replace("    mut ", "    ")
-
-    def call(self, eraser, item, name, wrapped=()):
-        """The call of a method by the names of its own parameters."""
-        arguments, with_self = [], False
-        for piece in eraser.pieces(item.parameters.inner):
-            words = solid(piece)
-            at = next((k for k, node in enumerate(words) if is_mark(node, ":") and not is_mark(words[k - 1], ":")), None)
-            if at is None or is_word(words[at - 1], "self"):
-                with_self = True
-            else:
-                arguments.append(words[at - 1].text)
-        kinds = []
-        for piece in eraser.pieces(item.generics[1:-1]):
-            words = [it for it in solid(piece) if not is_word(it, "const")]
-            if is_word(words[0]):
-                kinds.append("_" if words[0].text in wrapped else words[0].text)
-        turbofish = f"::<{', '.join(kinds)}>" if kinds else ""
-        return f"{'self.' if with_self else 'Self::'}{name}{turbofish}({', '.join(arguments)})"
+            return writer.two(body)
+        return writer.dispatched() if kind == "trait" and not any(is_word(it, "final") for it in item.before) else writer.two()
 
     def wrapper(self, eraser, item):
         """A free function for users: it tests the conditions, and calls the one that has the body; None where nothing is to be tested."""
-        made = conditions.Conditions(eraser.file, item.name, conditions.kinds_of(item, eraser), {}, "")
-        tests = [test for test in map(made.test, item.requires()) if test]
-        if not tests:
-            return None
-        self.known.told |= {f"{item.name} needs that {test.words}" for test in tests}
-        lines = eraser.documents(item) + (eraser.contracts.lines(item, eraser.file_words) if eraser.contracts else [])
-        docs = "".join(line + "\n    " for line in lines)
-        deprecated = "".join(it + "\n    " for it in map(eraser.attribute, item.attributes) if it and "deprecated" in it)
-        signature = self.unmuted(eraser.signature(item, item.name))
-        written = "".join("\n" + conditions.written(test, item.name, "        ").rstrip("\n") for test in tests)
-        call = "super::" + self.call(eraser, item, item.name).removeprefix("Self::")
-        return f"    {docs}{deprecated}#[inline]\n    #[track_caller]\n    pub fn {signature.removeprefix('fn ')} {{{written}\n        {call}\n    }}\n"
+        writer = Writer(eraser, dataclasses.replace(item, lead="    ", attributes=[it for it in item.attributes if "deprecated" in text(it.inner)]), True, False)
+        writer.test(item, "", False, self.known.told)
+        return writer.wrapper() if writer.tests else None
+
+
+def trait_of(eraser, outer):
+    """The trait that a method is of, with its parameters."""
+    if outer.kind == "trait":
+        return re.sub(r":[^,>]*", "", eraser.head_of_trait(text(outer.head))[0]).strip()
+    trait = eraser.trait_of(outer)[0]
+    return text(trait).strip() if trait else ""
+
+
+class Writer:
+    """Writes one function. `is_told` says whether its documents have its contract."""
+
+    def __init__(self, eraser, item, is_told, is_inlined):
+        self.eraser, self.item, self.is_told, self.is_inlined = eraser, item, is_told, is_inlined
+        self.indent = item.lead.rpartition("\n")[2]
+        self.tests, self.wrapped = [], set()
+
+    def test(self, stated, trait, is_delegated, told):
+        """Has the function test the conditions that `stated` has, but where another one tests them."""
+        if not is_delegated:
+            tests = conditions.tests_of(self.item, stated, self.eraser, trait)
+            told |= {f"{self.item.name} needs that {test.words}" for test in tests}
+            self.tests += [conditions.written(test, self.item.name, self.indent + "    ") for test in tests]
+        for _, kind, line in conditions.closures_of(stated):
+            self.tests.append(f"{self.indent}    {line}\n")
+            self.wrapped.add(kind)
+
+    def head(self, *attributes):
+        """What stands before the function's own words."""
+        return self.eraser.before(self.item, attributes, self.is_told)
+
+    def tested(self):
+        return "\n" + "".join(self.tests).rstrip("\n") if self.tests else ""
+
+    def block(self, words):
+        return f" {{\n{self.indent}    {words}\n{self.indent}}}"
+
+    def one(self):
+        """The function, which tests and has the body."""
+        signature = self.eraser.signature(self.item, self.item.name)
+        if self.item.body is None:
+            return self.head() + signature + ";"
+        return self.head(*self.hints(), *["#[track_caller]"] if self.tests else []) + signature + " {" + self.tested() + self.eraser.body(self.item) + "}"
+
+    def two(self, body=None):
+        """The method that tests, and the one that has the body. `body` is the first one's where it tests by what it calls."""
+        signature = self.unmuted(self.eraser.signature(self.item, self.item.name))
+        first = self.head(*self.hints(), "#[track_caller]") + signature + " {" + self.tested()
+        first += body + "}" if body else f"\n{self.indent}    {self.call(self.inner())}\n{self.indent}}}"
+        return first + self.second([*self.inlining(), *self.hints()]) + " {" + self.eraser.body(self.item) + "}"
+
+    def dispatched(self):
+        """A method of a trait that its types may bring, and the one that the library calls, which is the same where a type
+        doesn't bring that one too."""
+        return self.one() + self.second(["#[inline(always)]"]) + self.block(self.call(self.item.name))
+
+    def wrapper(self):
+        """A free function that tests, and calls the one that stands above it."""
+        signature = self.unmuted(self.eraser.signature(self.item, self.item.name))
+        call = "super::" + self.call(self.item.name).removeprefix("Self::")
+        return self.head("#[inline]", "#[track_caller]") + signature + " {" + self.tested() + f"\n        {call}\n    }}\n"
+
+    def inner(self):
+        return f"{self.item.name}_proved"
+
+    def inlining(self):
+        return [it for it in map(self.eraser.attribute, self.item.attributes) if it and it.startswith("#[inline")]
+
+    def hints(self):
+        """What lets rustc inline the function in other crates, as the kit's compiler does."""
+        return ["#[inline]"] if self.is_inlined and not self.inlining() else []
+
+    def second(self, attributes):
+        """The words of the method that the library calls."""
+        lines = attributes if self.item.public else ["#[doc(hidden)]", *attributes]
+        public = "pub(in crate) " if self.item.public else ""
+        return "".join(f"\n{self.indent}{line}" for line in ["", *lines, public + self.eraser.signature(self.item, self.inner())]).replace(f"\n{self.indent}\n", "\n\n", 1)
+
+    @staticmethod
+    def unmuted(signature):
+        """A signature whose parameters aren't written to."""
+        return re.sub(r"(?<=[(\s])mut (?=\w+(?:[:,)]))", "", signature)
+
+    def call(self, name):
+        """A call of the function, or of one beside it, by the names of its own parameters."""
+        names = list(conditions.kinds_of(self.item, self.eraser))
+        has_self = shape(self.item)[2]
+        kinds = []
+        for piece in self.eraser.pieces(self.item.generics[1:-1]):
+            words = [it for it in solid(piece) if not is_word(it, "const")]
+            if is_word(words[0]):
+                kinds.append("_" if words[0].text in self.wrapped else words[0].text)
+        turbofish = f"::<{', '.join(kinds)}>" if kinds else ""
+        return f"{'self.' if has_self else 'Self::'}{name}{turbofish}({', '.join(names)})"

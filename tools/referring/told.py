@@ -30,10 +30,21 @@ def told_laws():
         elif line.startswith("| `"):
             names, says = cells(line)[:2]
             names = SPAN.findall(names)
-            for name in names:
-                others = f" (with {', '.join(f'`{it}`' for it in names if it != name)})" if len(names) > 1 else ""
-                found.setdefault(name, []).append((files, says + others))
+            for name, text in zip(names, shared(says, len(names))):
+                others = f" (with {', '.join(f'`{it}`' for it in names if it != name)})" if text == says and len(names) > 1 else ""
+                found.setdefault(name, []).append((files, text + others))
     return found
+
+
+def shared(text, count):
+    """The text of a row for each of its names: the parts between semicolons where there are as many, and else all of it."""
+    parts = text.split("; ")
+    return parts if len(parts) == count else [text] * count
+
+
+def is_plain(text):
+    """Whether a text says something beside names."""
+    return len(re.findall(r"[a-z]{2,}", SPAN.sub("", text))) > 2
 
 
 def first_word(span):
@@ -49,8 +60,9 @@ def told_words():
             crates = [it for it in SPAN.findall(line)] or crates
         elif line.startswith("| `"):
             row = [*cells(line), ""]
-            for span in SPAN.findall(row[0]):
-                found.setdefault(first_word(span), []).append((crates, row[1], row[2]))
+            spans = SPAN.findall(row[0])
+            for span, text in zip(spans, shared(row[1], len(spans))):
+                found.setdefault(first_word(span), []).append((crates, text, row[2]))
         elif BULLET.match(line):
             bullet(BULLET.match(line)[1], crates, found)
     return found
@@ -65,7 +77,7 @@ def bullet(text, crates, found):
     own = [(first_word(span), sentence) for sentence, begins in heads for span in (SPAN.findall(begins[1]) if begins else ())]
     shows = {first_word(span) for span in SPAN.findall(line)} & {name for name, _ in own} or {name for name, _ in own[:1]}
     for name, sentence in own:
-        found.setdefault(name, []).append((crates, sentence, line if name in shows else ""))
+        found.setdefault(name, []).append((crates, sentence.rstrip(";") if is_plain(sentence) else "", line if name in shows else ""))
 
 
 def of_law(told, name, files):
