@@ -1,7 +1,7 @@
 use Rattle.std.proofs.Common.{arith}
 use Rattle.bitvec_in_place.specs.MovedLaws.{length-bits_of}
 use Rattle.bitvec_in_place.proofs.Cursors.{enough, fewer}
-use Rattle.bitvec_in_place.proofs.reader.BitReader.skip.Goals as goal
+use Rattle.bitvec_in_place.proofs.writer.BitWriter.skip.Goals as goal
 
 pub returns-then-width-remaining-clause-accepted : goal.returns-then-width-remaining-clause-accepted
 returns-then-width-remaining-clause-accepted g c = fewer _ _ _ _ c.remaining.ensures c.if-width-remaining.true
