@@ -37,6 +37,8 @@ mod own_order;
 #[cfg(test)]
 mod parts_lent;
 #[cfg(test)]
+mod sequences;
+#[cfg(test)]
 mod split_edits;
 #[cfg(test)]
 mod splits_known;

@@ -20,6 +20,11 @@ use Rattle.bitvec_owned.proofs.FrontLists.{cut-front, cut-zeros, grown-front, gr
 pub times : (b x d c : ℕ) → x + d ≡ c → b * x + b * d ≡ b * c
 times b x d c is = rw (← is) (omega arith)
 
+-- the numbers of elements that are 0
+pub numbers : {T : Type 0} (value : T → ℕ) (none : T) (n : ℕ) → value none ≡ 0 → map value (replicate n none) ≡ replicate n 0
+numbers value none zero is = refl
+numbers value none (suc n) is = rw (is, numbers value none n is) refl
+
 module _ {T : Type 0} (b : ℕ) (at : ℕ → ℕ → ℕ) (value : T → ℕ) (some : 0 < b) where
   abbrev bits_of : List T → List Bool
   bits_of elements = memory_bits b at (map value elements)
@@ -35,16 +40,12 @@ module _ {T : Type 0} (b : ℕ) (at : ℕ → ℕ → ℕ) (value : T → ℕ) (
       ∙ memory-range b at xs 0 n some (omega arith) (omega arith)
       ∙ rw (first, last) (between_from_start (memory_bits b at xs) (b * n))
 
-  zeros : (none : T) (n : ℕ) → value none ≡ 0 → map value (replicate n none) ≡ replicate n 0
-  zeros none zero is = refl
-  zeros none (suc n) is = rw (is, zeros none n is) refl
-
   pub bits-more : (none : T) (elements : List T) (n : ℕ) → value none ≡ 0 → bits_of (elements ++ replicate n none) ≡ bits_of elements ++ replicate (b * n) false
   bits-more none elements n is =
       let xs = map value elements in
       let ys : List ℕ = replicate n 0 in
       let many = length-replicate {A = ℕ} n 0 in
-      ap (memory_bits b at) (map-append value elements (replicate n none) ∙ ap (λ (l : List ℕ). xs ++ l) (zeros none n is))
+      ap (memory_bits b at) (map-append value elements (replicate n none) ∙ ap (λ (l : List ℕ). xs ++ l) (numbers value none n is))
       ∙ memory-append b at xs ys some
       ∙ ap (λ (l : List Bool). memory_bits b at xs ++ l) (bits-zeros b at ys (rw many refl) ∙ rw many refl)
 
