@@ -6,6 +6,7 @@ use Rattle.bitvec_base.specs.CountLaws.{ones_and_zeros}
 use Rattle.bitvec_base.specs.CountedLaws.{ones-all, ones-fewer, ones-flipped, ones-front, ones-more, ones-none, ones-rest, ones-reversed, ones-rotated_left, ones-rotated_right, ones-whole, zeros-all, zeros-fewer, zeros-flipped, zeros-more, zeros-none, zeros-reversed, zeros-rotated_left, zeros-rotated_right}
 use Rattle.bitvec_base.specs.FillLaws.{flip-undoes}
 use Rattle.bitvec_base.specs.FilledLaws.{all-filled, any-filled, bits-zeros, equal-same, first-filled, first-of_filled, last-filled, same-equal}
+use Rattle.bitvec_base.specs.NeedleLaws.{is_prefix-no_longer, is_suffix-no_longer}
 use Rattle.bitvec_base.specs.PlacesLaws.{first_place-absent, first_place-before, first_place-below, first_place-bit, last_place-absent, last_place-after, last_place-below, last_place-bit}
 use Rattle.bitvec_base.specs.RotationLaws.{rotated_left-undoes, rotated_right-undoes}
 use Rattle.bitvec_base.specs.MemoryLaws.{length-element_bits, length-memory_bits}
@@ -33,7 +34,8 @@ use Rattle.bitvec.specs.NumberSidesLaws.{get-high_number, get-low_number, number
 use Rattle.bitvec.specs.OwnViewsLaws.{bits-all, bits-front, bits-range}
 use Rattle.bitvec.specs.SeamlessLaws.{loaded-seamless, number-seamless, numbered-seamless, stored-seamless}
 use Rattle.bitvec.specs.ClosureLaws.{callable_below-always, callable_on_bits-always}
-use Rattle.bitvec.specs.MatchLaws.{contained, contains-absent, prefix-bit, prefix-fits, prefix-found, prefix-stripped, suffix-bit, suffix-fits, suffix-stripped}
+use Rattle.bitvec.specs.MatchLaws.{contained, contains-absent, prefix-bit, prefix-found, prefix-stripped, suffix-bit, suffix-stripped}
+use Rattle.bitvec_slice.specs.LentLaws.{lent-none}
 use Rattle.bitvec_slice.specs.SeenLaws.{length_bits}
 use Rattle.bitvec_store.specs.WidthLaws.{width_some}
 use Rattle.bitvec_domain.specs.FeedingLaws.{fed_same}
@@ -58,8 +60,8 @@ pub ruleset spliced = (lengths, get-window, get-slice_range, get-write_at_below,
 -- after `and_within`, `or_within`, `xor_within`: each bit and range, those that were written and those beside them
 pub ruleset overlaid = (lengths, get-combined_within_below, get-combined_within_inside, get-combined_within_above, length-combined_within, range-combined_within, range-combined_within_before, range-combined_within_after)
 
--- edits of one view, one sequence or one array of bits, one after the other, as one edit; and of one range of an array
-pub ruleset composed = (written-none, written-then, written-around, width_some, owned-none, owned-then, owned-both, array-none, array-then, changes-none, changes-then)
+-- edits of one view, one sequence or one array of bits, one after the other, as one edit; of a view of which nothing was lent; and of one range of an array
+pub ruleset composed = (written-none, written-then, written-around, lent-none, width_some, owned-none, owned-then, owned-both, array-none, array-then, changes-none, changes-then)
 
 -- `count_ones` and `count_zeros`: both make the length; after `set`; after calls that move bits or flip them
 pub ruleset counted = (lengths, ones_and_zeros, ones-more, ones-fewer, zeros-more, zeros-fewer, ones-flipped, zeros-flipped)
@@ -76,7 +78,7 @@ pub ruleset uniform = (lengths, get_or-replicate, ones-all, ones-none, zeros-all
 pub ruleset compared = (same-equal, equal-same)
 
 -- after `starts_with`, `ends_with`, `contains` and the strips: where the needle's bits stand
-pub ruleset matched = (lengths, prefix-fits, prefix-bit, prefix-stripped, prefix-found, suffix-fits, suffix-bit, suffix-stripped, contained, contains-absent)
+pub ruleset matched = (lengths, is_prefix-no_longer, prefix-bit, prefix-stripped, prefix-found, is_suffix-no_longer, suffix-bit, suffix-stripped, contained, contains-absent)
 
 -- after `cmp`, `<` and their kin: the order is total and agrees with `==`; and equal views feed a hasher the same
 pub ruleset ordered = (orders, fed_same)

@@ -4,18 +4,15 @@ use Rattle.std.specs.List.{list_any, range_with_len}
 use Rattle.std.proofs.Common.{arith, sym, ◌∙◌, ap, ⊎_elim, get_or-drop, get_or-take, length-take}
 use Rattle.std.proofs.lemmas.Bool.{cases_Bool, cases_lt}
 use Rattle.std.proofs.lemmas.List.{same_lists, take-append-drop}
+pub use Rattle.bitvec_base.specs.NeedleLaws.{is_prefix-no_longer, is_suffix-no_longer}
 use Rattle.bitvec_base.specs.SliceLaws.{range-from_start, range-to_end}
 use Rattle.bitvec_base.specs.Lists.{is_prefix, is_suffix, stands_at, stands_in}
-use Rattle.bitvec_base.specs.ListsLaws.{is_prefix-fits, is_prefix-long, is_suffix-fits, is_suffix-long, same_bits-decides, stands_at-fits, stands_at-long, stands_in-found}
+use Rattle.bitvec_base.specs.ListsLaws.{is_prefix-fits, is_suffix-fits, same_bits-decides, stands_at-fits, stands_at-long, stands_in-found}
 
 -- ---- at the start
 
-pub prefix-fits : (part list : List Bool) → is_prefix part list ≡ true → length part ≤ length list
-prefix-fits part list begins =
-    ⊎_elim (λ (long : length list < length part). let none = is_prefix-long part list long in absurd cc) (λ (fits : length part ≤ length list). fits) (cases_lt (length list) (length part))
-
 pub prefix-taken : (part list : List Bool) → is_prefix part list ≡ true → take (length part) list ≡ part
-prefix-taken part list begins = (same_bits-decides _ _).0 (sym (is_prefix-fits part list (prefix-fits part list begins)) ∙ begins)
+prefix-taken part list begins = (same_bits-decides _ _).0 (sym (is_prefix-fits part list (is_prefix-no_longer part list begins)) ∙ begins)
 
 -- each bit of the part is the list's at its index
 pub prefix-bit : (part list : List Bool) (k : ℕ) (d : Bool) → is_prefix part list ≡ true → k < length part → slice_index_or list k d ≡ slice_index_or part k d
@@ -38,12 +35,8 @@ prefix-found part list fits each =
 
 -- ---- at the end
 
-pub suffix-fits : (part list : List Bool) → is_suffix part list ≡ true → length part ≤ length list
-suffix-fits part list ends =
-    ⊎_elim (λ (long : length list < length part). let none = is_suffix-long part list long in absurd cc) (λ (fits : length part ≤ length list). fits) (cases_lt (length list) (length part))
-
 pub suffix-dropped : (part list : List Bool) → is_suffix part list ≡ true → drop (length list - length part) list ≡ part
-suffix-dropped part list ends = (same_bits-decides _ _).0 (sym (is_suffix-fits part list (suffix-fits part list ends)) ∙ ends)
+suffix-dropped part list ends = (same_bits-decides _ _).0 (sym (is_suffix-fits part list (is_suffix-no_longer part list ends)) ∙ ends)
 
 pub suffix-bit : (part list : List Bool) (k : ℕ) (d : Bool) → is_suffix part list ≡ true → k < length part → slice_index_or list (length list - length part + k) d ≡ slice_index_or part k d
 suffix-bit part list k d ends inside = sym (get_or-drop (length list - length part) list k d) ∙ ap (λ (l : List Bool). slice_index_or l k d) (suffix-dropped part list ends)

@@ -1,7 +1,7 @@
 //! The exports over elements of 16 bits.
 ghost use Rattle.bitvec_run.specs.declared.command.Op.TheVariants.{All, And, Any, Cmp, Contains, CopyFrom, CopyWithin, CountOnes, CountZeros, EndsWith, Eq, Fill, FirstOne, FirstZero, Get, Invert, LastOne, LastZero, Or, Replace, Reverse, RotateLeft, RotateRight, Set, ShiftEnd, ShiftStart, StartsWith, Swap, Xor};
 ghost use Rattle.bitvec_segments.specs.Segments.{loaded_be, loaded_le, stored_be, stored_le};
-ghost use Rattle.bitvec_checked.specs.Calls.{Asks, AsksBeside, Edits, EditsBeside, Loads, Seeks, Stores, Swaps};
+ghost use Rattle.bitvec_checked.specs.Calls.{Asks, AsksBeside, EditsBy, EditsBeside, Loads, Seeks, Stores, Swaps};
 ghost use Rattle.bitvec_checked.specs.Replies.{bit_of, count_of, order_of};
 ghost use Rattle.bitvec_checked.specs.Statuses.{bits_from};
 ghost use Rattle.bitvec_c.specs.Ones.{Lists};
@@ -33,7 +33,7 @@ pub extern "C" fn fb_u16_set(
     index: usize,
     bit: bool,
 ) -> u32
-    ensures { Edits order 16 (λ x. x) (Set index bit) (bits_from start len) elements.old elements.new result }
+    ensures { EditsBy order 16 (λ x. x) (Set index bit) (bits_from start len) elements.old elements.new result }
 {
     bitvec_checked::set(order, elements, start, len, index, bit)
 }
@@ -50,7 +50,7 @@ pub extern "C" fn fb_u16_replace(
     old: &mut bool,
 ) -> u32
     ensures value { Asks order 16 (λ x. x) (Replace index bit) bit_of (bits_from start len) elements.old old.old old.new result }
-    ensures writes { Edits order 16 (λ x. x) (Replace index bit) (bits_from start len) elements.old elements.new result }
+    ensures writes { EditsBy order 16 (λ x. x) (Replace index bit) (bits_from start len) elements.old elements.new result }
 {
     bitvec_checked::replace(order, elements, start, len, index, bit, old)
 }
@@ -65,7 +65,7 @@ pub extern "C" fn fb_u16_swap_bits(
     first: usize,
     second: usize,
 ) -> u32
-    ensures { Edits order 16 (λ x. x) (Swap first second) (bits_from start len) elements.old elements.new result }
+    ensures { EditsBy order 16 (λ x. x) (Swap first second) (bits_from start len) elements.old elements.new result }
 {
     bitvec_checked::swap_bits(order, elements, start, len, first, second)
 }
@@ -79,7 +79,7 @@ pub extern "C" fn fb_u16_fill(
     len: usize,
     bit: bool,
 ) -> u32
-    ensures { Edits order 16 (λ x. x) (Fill bit) (bits_from start len) elements.old elements.new result }
+    ensures { EditsBy order 16 (λ x. x) (Fill bit) (bits_from start len) elements.old elements.new result }
 {
     bitvec_checked::fill(order, elements, start, len, bit)
 }
@@ -87,7 +87,7 @@ pub extern "C" fn fb_u16_fill(
 /// Flips each bit of a window.
 #[unsafe(no_mangle)]
 pub extern "C" fn fb_u16_invert(order: u32, elements: &mut [u16], start: usize, len: usize) -> u32
-    ensures { Edits order 16 (λ x. x) Invert (bits_from start len) elements.old elements.new result }
+    ensures { EditsBy order 16 (λ x. x) Invert (bits_from start len) elements.old elements.new result }
 {
     bitvec_checked::invert(order, elements, start, len)
 }
@@ -95,7 +95,7 @@ pub extern "C" fn fb_u16_invert(order: u32, elements: &mut [u16], start: usize, 
 /// Puts the bits of a window in the opposite order.
 #[unsafe(no_mangle)]
 pub extern "C" fn fb_u16_reverse(order: u32, elements: &mut [u16], start: usize, len: usize) -> u32
-    ensures { Edits order 16 (λ x. x) Reverse (bits_from start len) elements.old elements.new result }
+    ensures { EditsBy order 16 (λ x. x) Reverse (bits_from start len) elements.old elements.new result }
 {
     bitvec_checked::reverse(order, elements, start, len)
 }
@@ -109,7 +109,7 @@ pub extern "C" fn fb_u16_shift_start(
     len: usize,
     by: usize,
 ) -> u32
-    ensures { Edits order 16 (λ x. x) (ShiftStart by) (bits_from start len) elements.old elements.new result }
+    ensures { EditsBy order 16 (λ x. x) (ShiftStart by) (bits_from start len) elements.old elements.new result }
 {
     bitvec_checked::shift_start(order, elements, start, len, by)
 }
@@ -123,7 +123,7 @@ pub extern "C" fn fb_u16_shift_end(
     len: usize,
     by: usize,
 ) -> u32
-    ensures { Edits order 16 (λ x. x) (ShiftEnd by) (bits_from start len) elements.old elements.new result }
+    ensures { EditsBy order 16 (λ x. x) (ShiftEnd by) (bits_from start len) elements.old elements.new result }
 {
     bitvec_checked::shift_end(order, elements, start, len, by)
 }
@@ -137,7 +137,7 @@ pub extern "C" fn fb_u16_rotate_left(
     len: usize,
     by: usize,
 ) -> u32
-    ensures { Edits order 16 (λ x. x) (RotateLeft by) (bits_from start len) elements.old elements.new result }
+    ensures { EditsBy order 16 (λ x. x) (RotateLeft by) (bits_from start len) elements.old elements.new result }
 {
     bitvec_checked::rotate_left(order, elements, start, len, by)
 }
@@ -151,7 +151,7 @@ pub extern "C" fn fb_u16_rotate_right(
     len: usize,
     by: usize,
 ) -> u32
-    ensures { Edits order 16 (λ x. x) (RotateRight by) (bits_from start len) elements.old elements.new result }
+    ensures { EditsBy order 16 (λ x. x) (RotateRight by) (bits_from start len) elements.old elements.new result }
 {
     bitvec_checked::rotate_right(order, elements, start, len, by)
 }
@@ -167,7 +167,7 @@ pub extern "C" fn fb_u16_copy_within(
     to: usize,
     dest: usize,
 ) -> u32
-    ensures { Edits order 16 (λ x. x) (CopyWithin from to dest) (bits_from start len) elements.old elements.new result }
+    ensures { EditsBy order 16 (λ x. x) (CopyWithin from to dest) (bits_from start len) elements.old elements.new result }
 {
     bitvec_checked::copy_within(order, elements, start, len, from, to, dest)
 }

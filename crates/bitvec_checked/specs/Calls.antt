@@ -19,7 +19,7 @@ pub record Under (order : ℕ) (P : (ℕ → ℕ → ℕ) → Bool → Type 0) :
 module _ {E : Type 0} (order b : ℕ) (value : E → ℕ) where
   -- ---- a command on a window of one memory
 
-  pub record Edits (op : Op) (window : Window) (old new : List E) (status : ℕ) : Type 0 where
+  pub record EditsBy (op : Op) (window : Window) (old new : List E) (status : ℕ) : Type 0 where
     pub status_is : status ≡ status_of order b (map value old) window op
     pub writes : status ≡ 0 → Under order (λ at high. Writes b at (map value old) (map value new) window ((op_row [] window.len op).list (list_in b at (map value old) window)))
     pub unchanged : status ≢ 0 → new ≡ old

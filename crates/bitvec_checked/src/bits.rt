@@ -1,6 +1,6 @@
 //! Single bits of a window.
 ghost use Rattle.bitvec_run.specs.declared.command.Op.TheVariants.{Get, Replace, Set, Swap};
-ghost use Rattle.bitvec_checked.specs.Calls.{Asks, Edits};
+ghost use Rattle.bitvec_checked.specs.Calls.{Asks, EditsBy};
 ghost use Rattle.bitvec_checked.specs.Replies.{bit_of};
 ghost use Rattle.bitvec_checked.specs.Statuses.{bits_from};
 
@@ -37,7 +37,7 @@ pub fn set<T: BitStore>(
     index: usize,
     bit: bool,
 ) -> u32
-    ensures { Edits order T.BITS T.value (Set index bit) (bits_from start len) elements.old elements.new result }
+    ensures { EditsBy order T.BITS T.value (Set index bit) (bits_from start len) elements.old elements.new result }
 {
     let window = Window { start, len };
     let status = or_next(
@@ -58,7 +58,7 @@ pub fn replace<T: BitStore>(
     old: &mut bool,
 ) -> u32
     ensures value { Asks order T.BITS T.value (Replace index bit) bit_of (bits_from start len) elements.old old.old old.new result }
-    ensures writes { Edits order T.BITS T.value (Replace index bit) (bits_from start len) elements.old elements.new result }
+    ensures writes { EditsBy order T.BITS T.value (Replace index bit) (bits_from start len) elements.old elements.new result }
 {
     let window = Window { start, len };
     let status = or_next(
@@ -82,7 +82,7 @@ pub fn swap_bits<T: BitStore>(
     first: usize,
     second: usize,
 ) -> u32
-    ensures { Edits order T.BITS T.value (Swap first second) (bits_from start len) elements.old elements.new result }
+    ensures { EditsBy order T.BITS T.value (Swap first second) (bits_from start len) elements.old elements.new result }
 {
     let window = Window { start, len };
     let status = or_next(

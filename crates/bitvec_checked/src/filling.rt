@@ -1,6 +1,6 @@
 //! Each bit of a window set, cleared or flipped.
 ghost use Rattle.bitvec_run.specs.declared.command.Op.TheVariants.{Fill, Invert};
-ghost use Rattle.bitvec_checked.specs.Calls.{Edits};
+ghost use Rattle.bitvec_checked.specs.Calls.{EditsBy};
 ghost use Rattle.bitvec_checked.specs.Statuses.{bits_from};
 
 use crate::status::window_status;
@@ -10,7 +10,7 @@ use bitvec_store::BitStore;
 
 /// Makes each bit of a window `bit`.
 pub fn fill<T: BitStore>(order: u32, elements: &mut [T], start: usize, len: usize, bit: bool) -> u32
-    ensures { Edits order T.BITS T.value (Fill bit) (bits_from start len) elements.old elements.new result }
+    ensures { EditsBy order T.BITS T.value (Fill bit) (bits_from start len) elements.old elements.new result }
 {
     let window = Window { start, len };
     let status = window_status(order, elements, window);
@@ -19,7 +19,7 @@ pub fn fill<T: BitStore>(order: u32, elements: &mut [T], start: usize, len: usiz
 
 /// Flips each bit of a window.
 pub fn invert<T: BitStore>(order: u32, elements: &mut [T], start: usize, len: usize) -> u32
-    ensures { Edits order T.BITS T.value Invert (bits_from start len) elements.old elements.new result }
+    ensures { EditsBy order T.BITS T.value Invert (bits_from start len) elements.old elements.new result }
 {
     let window = Window { start, len };
     let status = window_status(order, elements, window);

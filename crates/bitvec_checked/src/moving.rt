@@ -1,6 +1,6 @@
 //! The bits of a window moved to other places of it.
 ghost use Rattle.bitvec_run.specs.declared.command.Op.TheVariants.{CopyWithin, Reverse, RotateLeft, RotateRight, ShiftEnd, ShiftStart};
-ghost use Rattle.bitvec_checked.specs.Calls.{Edits};
+ghost use Rattle.bitvec_checked.specs.Calls.{EditsBy};
 ghost use Rattle.bitvec_checked.specs.Statuses.{bits_from};
 
 use crate::status::{amount_status, or_next, ranges_status, window_status};
@@ -12,7 +12,7 @@ use bitvec_within::{
 
 /// Puts the bits of a window in the opposite order.
 pub fn reverse<T: BitStore>(order: u32, elements: &mut [T], start: usize, len: usize) -> u32
-    ensures { Edits order T.BITS T.value Reverse (bits_from start len) elements.old elements.new result }
+    ensures { EditsBy order T.BITS T.value Reverse (bits_from start len) elements.old elements.new result }
 {
     let window = Window { start, len };
     let status = window_status(order, elements, window);
@@ -27,7 +27,7 @@ pub fn shift_start<T: BitStore>(
     len: usize,
     by: usize,
 ) -> u32
-    ensures { Edits order T.BITS T.value (ShiftStart by) (bits_from start len) elements.old elements.new result }
+    ensures { EditsBy order T.BITS T.value (ShiftStart by) (bits_from start len) elements.old elements.new result }
 {
     let window = Window { start, len };
     let status = or_next(
@@ -45,7 +45,7 @@ pub fn shift_end<T: BitStore>(
     len: usize,
     by: usize,
 ) -> u32
-    ensures { Edits order T.BITS T.value (ShiftEnd by) (bits_from start len) elements.old elements.new result }
+    ensures { EditsBy order T.BITS T.value (ShiftEnd by) (bits_from start len) elements.old elements.new result }
 {
     let window = Window { start, len };
     let status = or_next(
@@ -63,7 +63,7 @@ pub fn rotate_left<T: BitStore>(
     len: usize,
     by: usize,
 ) -> u32
-    ensures { Edits order T.BITS T.value (RotateLeft by) (bits_from start len) elements.old elements.new result }
+    ensures { EditsBy order T.BITS T.value (RotateLeft by) (bits_from start len) elements.old elements.new result }
 {
     let window = Window { start, len };
     let status = or_next(
@@ -81,7 +81,7 @@ pub fn rotate_right<T: BitStore>(
     len: usize,
     by: usize,
 ) -> u32
-    ensures { Edits order T.BITS T.value (RotateRight by) (bits_from start len) elements.old elements.new result }
+    ensures { EditsBy order T.BITS T.value (RotateRight by) (bits_from start len) elements.old elements.new result }
 {
     let window = Window { start, len };
     let status = or_next(
@@ -101,7 +101,7 @@ pub fn copy_within<T: BitStore>(
     to: usize,
     dest: usize,
 ) -> u32
-    ensures { Edits order T.BITS T.value (CopyWithin from to dest) (bits_from start len) elements.old elements.new result }
+    ensures { EditsBy order T.BITS T.value (CopyWithin from to dest) (bits_from start len) elements.old elements.new result }
 {
     let window = Window { start, len };
     let status = or_next(

@@ -1,6 +1,6 @@
 //! Numbers of 1 to 64 bits in windows.
 ghost use Rattle.std.specs.Prelude.{◌≡◌, ◌≤◌, map};
-ghost use Rattle.bitvec_base.specs.Memory.{Edits as EditsList, HasWindow, list_in};
+ghost use Rattle.bitvec_base.specs.Memory.{Edits, HasWindow, list_in};
 ghost use Rattle.bitvec_segments.specs.Segments.{loaded_be, loaded_le, stored_be, stored_le};
 ghost use Rattle.bitvec_checked.specs.Calls.{Loads, Stores};
 ghost use Rattle.bitvec_checked.specs.Statuses.{bits_from};
@@ -77,7 +77,7 @@ pub fn store_le<T: BitStore>(
 fn store_le_in<T: BitStore, O: FieldOrder>(elements: &mut [T], window: Window, number: u64)
     requires window { HasWindow T.BITS (map T.value elements.old) window }
     requires bound { window.len ≤ 64 }
-    ensures writes { EditsList T.BITS O.at (map T.value elements.old) (map T.value elements.new) window (stored_le O.HIGH T.BITS window.start number) }
+    ensures writes { Edits T.BITS O.at (map T.value elements.old) (map T.value elements.new) window (stored_le O.HIGH T.BITS window.start number) }
 {
     let mut cells = Exclusive::new(elements);
     O::store_le::<Exclusive<T>>(&mut cells, window, number as u128);
@@ -101,7 +101,7 @@ pub fn store_be<T: BitStore>(
 fn store_be_in<T: BitStore, O: FieldOrder>(elements: &mut [T], window: Window, number: u64)
     requires window { HasWindow T.BITS (map T.value elements.old) window }
     requires bound { window.len ≤ 64 }
-    ensures writes { EditsList T.BITS O.at (map T.value elements.old) (map T.value elements.new) window (stored_be O.HIGH T.BITS window.start number) }
+    ensures writes { Edits T.BITS O.at (map T.value elements.old) (map T.value elements.new) window (stored_be O.HIGH T.BITS window.start number) }
 {
     let mut cells = Exclusive::new(elements);
     O::store_be::<Exclusive<T>>(&mut cells, window, number as u128);

@@ -23,13 +23,6 @@ module _ {V T F : Type 0} {shows : V → Seen T} {named : V → GName} {pre : F 
     at = λ f k lists in_turn. may k f (subst (Holds k) in_turn.last_is (in_turn-keep Holds in_turn first (λ j f g list holds call. keeps j f g call.piece call.left holds call.is call.stepped) k (omega arith)));
   }
 
-  -- and so may one that each call leaves as it was
-  pub may_edit_same : ((j : ℕ) (g : F) (p q : MutBor V) → IsNumbered view way j (shows p.now) → step edit j p tt q g → g ≡ edit)
-      → ((k : ℕ) → MayEdit shows named (pre edit k) (λ p r q. (g : F) × step edit k p r q g) (IsNumbered view way k)) → MayEditEach shows named pre step edit view way
-  may_edit_same keeps may =
-      may_edit_kept (λ _ f. f ≡ edit) refl (λ j f g p q same is stepped. keeps j g p q is (subst (λ (e : F). step e j p tt q g) same stepped))
-      (λ k f same. subst (λ (e : F). MayEdit shows named (pre e k) (λ p r q. (g : F) × step e k p r q g) (IsNumbered view way k)) (sym same) (may k))
-
 module _ {T O F : Type 0} {t : Store T} {o : Order O} {writes : BitSliceMut T O t o → BitSliceMut T O t o → List Bool → Type 0}
     {step : F → ℕ → MutBor (BitSliceMut T O t o) → ⊤ → MutBor (BitSliceMut T O t o) → F → Type 0} {edit : F} {before after : BitSliceMut T O t o} where
   -- a piece that a call leaves as the bits `left` has these now, where `Holds` holds of the edit before each call
@@ -71,12 +64,3 @@ module _ {T O F : Type 0} {t : Store T} {o : Order O} {writes : BitSliceMut T O 
   piece_same k left edits below keeps same =
       piece_kept (λ _ f. f ≡ edit) k left edits below refl (λ j f g p q at is stepped. keeps j g p q is (subst (λ (e : F). step e j p tt q g) at stepped))
       (λ f g p q at is stepped. same g p q is (subst (λ (e : F). step e k p tt q g) at stepped))
-
-  pub chunk_same : {size : ℕ} (k : ℕ) (left : List Bool) → 0 < size → EditsPieces seen_mut name_of writes step edit before (in_chunks size) after → k * size < (seen_mut before).window.len
-      → ((j : ℕ) (g : F) (p q : MutBor (BitSliceMut T O t o)) → IsNumbered (seen_mut before) (in_chunks size) j (seen_mut p.now) → step edit j p tt q g → g ≡ edit)
-      → ((g : F) (p q : MutBor (BitSliceMut T O t o)) → IsNumbered (seen_mut before) (in_chunks size) k (seen_mut p.now)
-      → (seen_mut p.now).bits ≡ slice_range (seen_mut before).bits (k * size) (k * size + size) → step edit k p tt q g → (seen_mut q.now).bits ≡ left)
-      → slice_range (seen_mut after).bits (k * size) (k * size + size) ≡ left
-  chunk_same k left some edits begins keeps same =
-      chunk_kept (λ _ f. f ≡ edit) k left some edits begins refl (λ j f g p q at is stepped. keeps j g p q is (subst (λ (e : F). step e j p tt q g) at stepped))
-      (λ f g p q at is bits stepped. same g p q is bits (subst (λ (e : F). step e k p tt q g) at stepped))

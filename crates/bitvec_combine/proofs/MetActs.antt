@@ -16,7 +16,8 @@ use Rattle.bitvec_words.specs.ShortWindow.{padded}
 use Rattle.bitvec_words.specs.TouchedLaws.{apart_edge, head_edge, inside_element, touched-edge, touched-first, touched-inside, touched-after}
 use Rattle.bitvec_words.specs.WholeLaws.{HasWindow-part, touched-behind_from, window-same}
 use Rattle.bitvec_combine.specs.Acts.{HasMet, IsCarried, bits_beside, held}
-use Rattle.bitvec_combine.specs.ActLaws.{padded-full, padded-join}
+use Rattle.bitvec_combine.specs.ActLaws.{padded-join}
+use Rattle.bitvec_words.specs.WordLaws.{padded-all}
 use Rattle.bitvec_combine.proofs.StretchActs.{index-same, skip-some}
 
 -- all whole elements of the second, where these are all bits
@@ -32,7 +33,7 @@ elements-all {b = b} Done {at} {ys = ys} left right some met edge full done =
     let shorter = rw last at met.inside in
     let same : left.len ≡ right.len = grind arith in
     let long = length-list b at ys right met.beside in
-    rw (padded-full left.len (list_in b at ys right) (omega arith))
+    rw (padded-all left.len (list_in b at ys right) (omega arith))
     (rw (window-same (elements_window b (left.start / b) (right.len / b)) left (omega arith) (omega arith), window-same (elements_window_from b (right.start / b) (right.start % b) (right.len / b)) right (omega arith) (omega arith)) at done)
 
 -- the bits before a place and behind it
@@ -67,7 +68,7 @@ pub head-done : {C S : Type 0} (Done : (ℕ → ℕ → ℕ) → C → C → Win
 head-done Done {at} {ys = ys} b w t to from met head long is width has fits taken done =
     let part : Window = record { start = from.start; len = t } in
     let whole : met ≡ part = taken ∙ window-same _ part refl (omega arith) in
-    rw (head-window b w t to head long is width, ← long, whole, padded-full t _ (length-list b at ys part (HasWindow-part b ys from part has (omega arith) (omega arith)))) at done
+    rw (head-window b w t to head long is width, ← long, whole, padded-all t _ (length-list b at ys part (HasWindow-part b ys from part has (omega arith) (omega arith)))) at done
 
 -- the second window behind it begins at the edge, too, or doesn't
 pub rest-phases : (b s r t n : ℕ) (equal : Bool) → 0 < b → t ≡ min n (b - s % b) → t ≢ n → (s % b == r % b) ≡ equal → (0 == (r + t) % b) ≡ equal

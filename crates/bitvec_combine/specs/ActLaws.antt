@@ -11,12 +11,7 @@ use Rattle.bitvec_base.specs.WritesLaws.{HasWindow-kept}
 use Rattle.bitvec_words.specs.ShortWindow.{padded}
 use Rattle.bitvec_words.specs.TouchedLaws.{head_edge}
 use Rattle.bitvec_words.specs.WholeLaws.{HasWindow-part}
-use Rattle.bitvec_words.specs.WordLaws.{padded-all}
 use Rattle.bitvec_combine.specs.Acts.{HasMet}
-
--- no zeros where the list is as long
-pub padded-full : (n : ℕ) (list : List Bool) → length list ≡ n → padded n list ≡ list
-padded-full n list long = padded-all n list long
 
 -- a part of zeros that begins with some bits of a list
 pub padded-part : (b from to len : ℕ) (list : List Bool) → to ≤ b → len ≤ to - from → length list ≡ b

@@ -19,7 +19,7 @@ use Rattle.bitvec_cells.specs.WalkLaws.{touched-less}
 use Rattle.bitvec_words.specs.SameLaws.{or_zero, same-joined}
 use Rattle.bitvec_words.specs.TouchedLaws.{touched-edge, touched-one}
 use Rattle.bitvec_words.specs.WholeLaws.{HasWindow-part, list-empty, same-empty}
-use Rattle.bitvec_combine.specs.ActLaws.{padded-full}
+use Rattle.bitvec_words.specs.WordLaws.{padded-all}
 use Rattle.bitvec_combine.specs.Acts.{IsCut, bits_beside}
 use Rattle.bitvec_combine.specs.Sides.{FindsDifference}
 
@@ -88,7 +88,7 @@ module _ {E C : Type 0} (access : Access C E) (b : ℕ) (at : ℕ → ℕ → �
   pub found_same : (old new : C) (ys : List ℕ) (left right : Window) (result : Bool) (before found : ℕ) → HasSpan b (access.numbers old) ys left right → FindsDifference access b at old new left (bits_beside b at ys left right) before found
       → before ≡ 0 → result ≡ (found == 0) → result ≡ same_bits (list_in b at (access.numbers old) left) (list_in b at ys right)
   found_same old new ys left right result before found span done none is =
-      is ∙ rw (none, padded-full left.len (list_in b at ys right) (length-list b at ys right span.beside ∙ sym span.lengths)) at done.value
+      is ∙ rw (none, padded-all left.len (list_in b at ys right) (length-list b at ys right span.beside ∙ sym span.lengths)) at done.value
 
 -- ---- whole windows
 

@@ -16,7 +16,7 @@ use Rattle.bitvec_store.specs.WidthLaws.{width_some}
 use Rattle.bitvec_cells.specs.Cost.{part_loads}
 use Rattle.bitvec_words.specs.TouchedLaws.{touched-edge, touched-first}
 use Rattle.bitvec_combine.specs.Acts.{IsCut, PutsBits, bits_beside, inside_edges}
-use Rattle.bitvec_combine.specs.ActLaws.{padded-full}
+use Rattle.bitvec_words.specs.WordLaws.{padded-all}
 use Rattle.bitvec_words.specs.Moves.{Copies}
 
 -- ---- the laws of the act
@@ -49,4 +49,4 @@ pub ruleset stored = (part-edges, set-element, length-element_bits, length-set, 
 pub Puts-beside : {E C : Type 0} {access : Access C E} {b : ℕ} {at : ℕ → ℕ → ℕ} {c d : C} {ys : List ℕ} {left right other : Window} → HasSpan b (access.numbers c) ys left right → other ≡ right
     → PutsBits access b at c d left (bits_beside b at ys left other) → Copies b at (access.numbers c) (access.numbers d) left ys right
 Puts-beside {E} {C} {access} {b} {at} {c} {d} {ys} {left} {right} span is puts =
-    Writes-is _ _ _ _ _ _ _ puts.writes (rw (is, span.lengths) (padded-full right.len _ (length-list b at ys right span.beside)))
+    Writes-is _ _ _ _ _ _ _ puts.writes (rw (is, span.lengths) (padded-all right.len _ (length-list b at ys right span.beside)))

@@ -1,4 +1,4 @@
-//! Two windows' bits, index by index, many at a time: combined by a Boolean operator, or compared.
+//! Two windows' bits, index by index, many at a time: copied, combined by a Boolean operator, or compared.
 #![tactic(auto)]
 
 mod acting;

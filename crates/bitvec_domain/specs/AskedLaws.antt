@@ -5,7 +5,7 @@ use Rattle.std.specs.Fn.{Called, Mut, Takes, always_mut}
 use Rattle.std.specs.Iterator.{Yields}
 use Rattle.std.specs.List.{FoldsTo, range_with_len}
 use Rattle.std.proofs.Common.{arith, sym, ◌∙◌, ap, subst}
-use Rattle.std.proofs.lemmas.List.{append-nil, append_assoc, length-append}
+use Rattle.std.proofs.lemmas.List.{length-append}
 use Rattle.bitvec_domain.specs.Asked.{AnswersTo, CallableTo}
 
 module _ {F A : Type 0} (g : Mut F A Bool) (asked : ℕ → A) where
@@ -25,16 +25,6 @@ module _ {F A : Type 0} (g : Mut F A Bool) (asked : ℕ → A) where
 
   -- J holds of the answers so far and of the state after them, where each call keeps it
   module _ (J : List Bool → F → Type 0) (keeps : (done : List Bool) (p : F) (bit : Bool) (q : F) → J done p → R p (length done) bit q → J (done ++ (bit ∷ [])) q) where
-    fills-keep : (done new : List Bool) (k : ℕ) (p last : F) → length done ≡ k → J done p → FillsFrom R p k new last → J (done ++ new) last
-    fills-keep done [] k p last at held calls = subst (λ (l : List Bool). J l last) (sym (append-nil done)) (subst (J done) calls held)
-    fills-keep done (bit ∷ new) k p last at held calls =
-        let next = keeps done p bit calls.0 held (subst (λ (n : ℕ). R p n bit calls.0) (sym at) calls.1) in
-        subst (λ (l : List Bool). J l last) (append_assoc done (bit ∷ []) new)
-        (fills-keep (done ++ (bit ∷ [])) new (k + 1) calls.0 last (omega (arith, at, length-append done (bit ∷ []))) next calls.2)
-
-    pub answers-keep : (f : F) (new : List Bool) → J [] f → AnswersTo g asked f new → (last : F) × J new last
-    answers-keep f new first fills = (fills.0, fills-keep [] new 0 f fills.0 refl first fills.1)
-
     calls-keep : (n : ℕ) (xs : List ℕ) (k t : ℕ) (done : List Bool) (p q : F) → length done ≡ k → J done p → Yields (index_steps n) k xs t → FoldsTo (λ p i q. (bit : Bool) × R p i bit q) p xs q → (all : List Bool) × (length all ≡ t) × J all q
     calls-keep n [] k t done p q at held gave calls = (done, at ∙ gave, subst (J done) calls held)
     calls-keep n (x ∷ xs) k t done p q at held gave calls =

@@ -44,7 +44,7 @@ use denote.Slice.{MutSlice, Room, slice_val}
 use denote.Array.{Array}
 use denote.Follow.{follows}
 use denote.Ref.{NamedLft, MutBor, at_last, mut_vals, mut_Tells}
-use denote.Signature.{Signature, Slot, plain, mut_ref_to, mut_slice_of, types_at, named_lft}
+use denote.Signature.{Signature, plain, mut_ref_to, mut_slice_of, types_at, named_lft}
 use denote.Steps.{nothing, peeks, heard}
 use denote.Struct.Field.{Field}
 use denote.Struct.Values.{Values}
@@ -60,7 +60,7 @@ use Rattle.bitvec_domain.specs.Refill.{with_range}
 use Rattle.bitvec_domain.specs.Middle.{whole}
 use Rattle.bitvec_domain.specs.Arity.{Arity, lived, unlived}
 use Rattle.bitvec_domain.specs.Through.{parts, Flat, lends_part_of}
-use Rattle.bitvec_domain.specs.Lender.{elements_ty, spelled}
+use Rattle.bitvec_domain.specs.Lender.{elements_ty, slot, spelled}
 
 module _ (T : RattleType) (N : Arity) (ν : Sym) (τs : Tys) where
   abbrev body : Body
@@ -99,14 +99,11 @@ module _ (T : RattleType) (N : Arity) (R : NamedLft → RattleType) (slice : (a 
   abbrev X : RattleType
   X = copied 0 T
 
-  abbrev pub slot : Slot (suc (suc N.more))
-  slot = plain {n = suc (suc N.more)} (λ κs. R (named_lft (suc (suc N.more)) 1 tt κs))
-
   abbrev pub signature : Signature
   signature = record {
     lifetimes = suc (suc N.more);
     outlives = record { long = 1; long_ok = tt; short = named 0; short_ok = tt } ∷ N.bounds;
-    params = mut_ref_to (0 ∷ []) tt slot ∷ plain (λ κs. usize) ∷ plain (λ κs. usize) ∷ [];
+    params = mut_ref_to (0 ∷ []) tt (slot T N R slice F) ∷ plain (λ κs. usize) ∷ plain (λ κs. usize) ∷ [];
     result = mut_slice_of (0 ∷ []) tt (plain (λ κs. X));
   }
 

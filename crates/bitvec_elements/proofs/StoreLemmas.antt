@@ -4,14 +4,14 @@ use Rattle.std.proofs.Common.{arith, sym, ◌∙◌, ap, subst}
 use Rattle.bitvec_engine.specs.Direction.{Agrees}
 use Rattle.bitvec_engine.specs.Pairs.{HasPair}
 use Rattle.bitvec_base.specs.declared.window.Window.{Window}
-use Rattle.bitvec_base.specs.Memory.{Edits, HasWindow, Writes, element_bits, list_in}
+use Rattle.bitvec_base.specs.Memory.{HasWindow, Writes, element_bits, list_in}
 use Rattle.bitvec_base.specs.Window.{window_range, write_window}
 use Rattle.bitvec_base.specs.WriteLaws.{length-slice_range}
 use Rattle.bitvec_base.specs.WritesLaws.{HasWindow-kept, HasWindow-range, Writes-empty, Writes-is, Writes-join, length-list, list-behind, list-range}
 use Rattle.bitvec_words.specs.WordLaws.{take-all}
 use Rattle.bitvec_words.specs.ShortWindow.{padded}
 use Rattle.bitvec_words.specs.MovedLaws.{take-word, take-range}
-use Rattle.bitvec_engine.proofs.DirectionLemmas.{list-agrees, memory-agrees}
+use Rattle.bitvec_engine.proofs.DirectionLemmas.{memory-agrees}
 
 -- the first n places of a window
 abbrev pub until : Window → ℕ → Window
@@ -24,10 +24,6 @@ Writes-agrees b at other old new window list some agrees writes = record {
   long = writes.long;
   elements = writes.elements;
 }
-
-pub Edits-agrees : (b : ℕ) (at other : ℕ → ℕ → ℕ) (old new : List ℕ) (window : Window) (edit : List Bool → List Bool) → 0 < b → Agrees b at other → Edits b other old new window edit → Edits b at old new window edit
-Edits-agrees b at other old new window edit some agrees writes =
-    Writes-is b at old new window _ _ (Writes-agrees b at other old new window _ some agrees writes) (ap edit (sym (list-agrees b at other old window some agrees)))
 
 -- a range of a window lies in the memory, also after a write
 pub range-inside : (b : ℕ) (xs : List ℕ) (window part : Window) (from to : ℕ) → HasWindow b xs window → part ≡ window_range window from to → from ≤ to → to ≤ window.len → HasWindow b xs part

@@ -5,7 +5,7 @@ ghost use Rattle.bitvec_base.specs.Memory.{HasWindow, element_bits, list_in};
 ghost use Rattle.bitvec_words.specs.Elements.{elements_window_from};
 ghost use Rattle.bitvec_words.specs.ShortWindow.{padded};
 ghost use Rattle.bitvec_elements.specs.BitsFrom.{HasBitsFrom};
-ghost use Rattle.bitvec_engine.specs.Direction.{Runs};
+ghost use Rattle.bitvec_engine.specs.Direction.{HasDirection};
 
 use bitvec_base::{BitOrder, Lsb0, Msb0, Part, Window, first_part};
 use bitvec_cells::{CellsRead, Shared};
@@ -27,7 +27,7 @@ pub fn word_from<W: WordOrder, O: BitOrder, T: BitStore>(
 ) -> u64
     requires window { HasWindow T.BITS (map T.value elements.now) window }
     requires bound { from ≤ window.len + 64 }
-    requires runs { Runs direction T.BITS O.at }
+    requires runs { HasDirection direction T.BITS O.at }
     ensures { HasBitsFrom W.at result (list_in T.BITS O.at (map T.value elements.now) window) from }
 {
     let start = from.min(window.len);
@@ -46,7 +46,7 @@ pub(crate) fn window_word<W: WordOrder, O: BitOrder, T: BitStore>(
 ) -> u64
     requires window { HasWindow T.BITS (map T.value elements.now) window }
     requires bound { window.len ≤ 64 }
-    requires runs { Runs direction T.BITS O.at }
+    requires runs { HasDirection direction T.BITS O.at }
     ensures { element_bits 64 W.at result
         ≡ padded 64 (list_in T.BITS O.at (map T.value elements.now) window) }
 {

@@ -9,7 +9,7 @@ abbrev pub Agrees : ℕ → (ℕ → ℕ → ℕ) → (ℕ → ℕ → ℕ) → 
 Agrees b at other = (i : ℕ) → i < b → at b i ≡ other b i
 
 -- the order runs through an element of b bits as is said: up, down, or neither
-unfoldable pub Runs : Direction → ℕ → (ℕ → ℕ → ℕ) → Type 0
-Runs Up b at = RunsFrom false b at
-Runs Down b at = RunsFrom true b at
-Runs Other b at = (¬ RunsFrom false b at) × (¬ RunsFrom true b at)
+unfoldable pub HasDirection : Direction → ℕ → (ℕ → ℕ → ℕ) → Type 0
+HasDirection Up b at = RunsFrom false b at
+HasDirection Down b at = RunsFrom true b at
+HasDirection Other b at = (¬ RunsFrom false b at) × (¬ RunsFrom true b at)

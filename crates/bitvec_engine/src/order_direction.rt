@@ -1,6 +1,6 @@
 //! Which way an order runs through the bits of an element.
 ghost use Rattle.std.specs.Prelude.{◌≡◌, ◌↔◌, true};
-ghost use Rattle.bitvec_engine.specs.Direction.{Agrees, Runs};
+ghost use Rattle.bitvec_engine.specs.Direction.{Agrees, HasDirection};
 
 use bitvec_base::{BitOrder, Lsb0, Msb0};
 use bitvec_store::BitStore;
@@ -20,7 +20,7 @@ pub enum Direction {
 /// that stands elsewhere. Of an order that is known at compile time nothing is asked.
 #[inline(always)]
 pub fn direction_of<O: BitOrder, T: BitStore>() -> Direction
-    ensures { Runs result T.BITS O.at }
+    ensures { HasDirection result T.BITS O.at }
 {
     if agrees::<O, Lsb0, T>() {
         Direction::Up

@@ -31,7 +31,7 @@ pub fn words_reverse<O: WordOrder, C: Cells>(cells: &mut C, window: Window)
     }
 }
 
-/// [`reverse`] by blocks from each end, of the bits of three elements fewer than `HELD`.
+/// [`words_reverse`] by blocks from each end, of the bits of three elements fewer than `HELD`.
 #[inline(always)]
 fn reverse_blocks<O: WordOrder, C: Cells, const HELD: usize>(cells: &mut C, window: Window)
     requires window { HasWindow C.Elem.BITS (C.numbers cells.old) window }
@@ -53,7 +53,7 @@ fn reverse_blocks<O: WordOrder, C: Cells, const HELD: usize>(cells: &mut C, wind
 }
 
 /// Exchanges `count` bits of a window from `low` on with those that end as far before its end, each in
-/// the opposite order, which two arrays hold in between. Condition: as for [`reverse`]; there are some, and they
+/// the opposite order, which two arrays hold in between. Condition: as for [`words_reverse`]; there are some, and they
 /// lie apart; the arrays are as long, with room for them and three elements more.
 #[inline(always)]
 fn exchange_ends<O: WordOrder, C: Cells>(
@@ -84,7 +84,7 @@ fn exchange_ends<O: WordOrder, C: Cells>(
 }
 
 /// Loads the elements that a window touches into the last ones but one of some others, each in the opposite
-/// order, and gives the window of these that has the window's bits. Condition: as for [`reverse`]; the window
+/// order, and gives the window of these that has the window's bits. Condition: as for [`words_reverse`]; the window
 /// isn't empty, and the others have room for it and three elements more.
 #[inline(always)]
 fn load_mirrored<O: WordOrder, C: Cells>(
@@ -115,7 +115,7 @@ fn load_mirrored<O: WordOrder, C: Cells>(
 /// Moves a window of some elements toward their start until it begins at the same index of an element as
 /// the bit `other`, and gives its new place. Condition: an element stands before the window, and one behind it.
 ///
-/// It is left out of line, since it works on an array alone: so what is inlined into [`reverse`] stays small.
+/// It is left out of line, since it works on an array alone: so what is inlined into [`words_reverse`] stays small.
 fn in_phase<O: WordOrder, T: BitStore>(held: &mut [T], window: Window, other: usize) -> Window
     requires { IsAmid T.BITS (map T.value held.old) window }
     ensures window { HasWindow T.BITS (map T.value held.new) result }

@@ -135,10 +135,10 @@ pub trait SliceOrder: BitOrder {
         bits_scan_last::<Self, C>(cells, window, want)
     }
 
-    /// The first bits of a window as the first bits of a word, and how many they are: those of the
-    /// first element that it touches, at most 64, or, where it begins with one and has 64 bits,
-    /// perhaps 64. The word's other bits are 0. Condition: the window isn't empty. It loads each
-    /// element that these bits touch once.
+    /// The first bits of a window as the first bits of a word, and how many they are: at least one, and
+    /// at most 64. Where more are left, and elements have at most 64 bits, the next one begins an
+    /// element. The word's other bits are 0. Condition: the window isn't empty. It loads each element
+    /// that these bits touch once.
     fn load_front<C: CellsRead>(cells: &mut C, window: Window) -> (u64, usize)
         requires window { HasWindow C.Elem.BITS (C.numbers cells.old) window }
         requires some { 0 < window.len }

@@ -3,7 +3,7 @@ use Rattle.std.specs.Prelude.{◌≡◌, ℕ, ◌+◌, ◌-◌, ◌*◌, ◌/◌
 use Rattle.std.proofs.Common.{arith, sym, ◌∙◌, ap, ⊎_elim, inl, inr}
 use Rattle.std.proofs.Math.Nat.{div-div-eq-div-mul, mod-add-mod}
 use Rattle.std.proofs.lemmas.List.{drop-replicate, length-replicate, same_lists, take-replicate}
-use Rattle.std.proofs.lemmas.Nat.{mod_below, pow-add, pow_pos}
+use Rattle.std.proofs.lemmas.Nat.{pow-add, pow_pos}
 use Rattle.bitvec_base.specs.LengthLaws as lasting
 use Rattle.bitvec_base.specs.Lists.{copied_within}
 use Rattle.bitvec_base.specs.MemoryLaws.{get-element_bits, length-element_bits}
@@ -12,7 +12,7 @@ use Rattle.bitvec_segments.specs.LoadLaws.{loaded-first, loaded-none, loaded-pha
 use Rattle.bitvec_segments.specs.NumberLaws.{segment-number, segment-told, segment_bits-mod}
 use Rattle.bitvec_segments.specs.PlainLaws.{loaded-plain}
 use Rattle.bitvec_segments.specs.Segments.{bit_number, loaded, segment_bits, segment_number, stored}
-use Rattle.bitvec_segments.specs.SegmentsLaws.{first_len}
+use Rattle.bitvec_segments.specs.SegmentsLaws.{first-some, first_len}
 use Rattle.bitvec_segments.specs.StoreLaws.{length-stored, stored-loads}
 use Rattle.bitvec_within.specs.Combined.{combined_within}
 use Rattle.bitvec_within.specs.Swaps.{LieApart, swapped_within}
@@ -160,15 +160,12 @@ module _ (big high bit : Bool) (b s n k : ℕ) (some : 0 < b) (more : 0 < n) (is
       loaded-first big high b s (replicate n bit) k some (omega arith) (is ∙ ap (first_len b s) (sym long))
       ∙ rw (long, taken, dropped, first, rest) refl
 
-first_some : (b s n : ℕ) → 0 < b → 0 < n → 0 < first_len b s n
-first_some b s n some more = let below = mod_below s b some in omega arith
-
 loaded_zeros : (most : ℕ) (big high : Bool) (b s n : ℕ) → 0 < b → n ≤ most → loaded big high b s (replicate n false) ≡ 0
 loaded_zeros most big high b s zero some few = loaded-none big high b s
 loaded_zeros zero big high b s (suc n) some few = absurd (omega arith)
 loaded_zeros (suc most) big high b s (suc n) some few =
     let k : ℕ = first_len b s (suc n) in
-    let taken : 0 < k = first_some b s (suc n) some (omega arith) in
+    let taken : 0 < k = first-some b s (suc n) some (omega arith) in
     first-same big high false b s (suc n) k some (omega arith) refl 0 0 (segment_zeros high k) (loaded_zeros most big high b (s + k) (suc n - k) some (omega arith))
     ∙ zeros_side big k (suc n - k)
 
@@ -177,7 +174,7 @@ loaded_ones most big high b s zero some few = loaded-none big high b s ∙ omega
 loaded_ones zero big high b s (suc n) some few = absurd (omega arith)
 loaded_ones (suc most) big high b s (suc n) some few =
     let k : ℕ = first_len b s (suc n) in
-    let taken : 0 < k = first_some b s (suc n) some (omega arith) in
+    let taken : 0 < k = first-some b s (suc n) some (omega arith) in
     let whole : k + (suc n - k) ≡ suc n = omega arith in
     first-same big high true b s (suc n) k some (omega arith) refl (2 ^ k - 1) (2 ^ (suc n - k) - 1) (segment_ones high k) (loaded_ones most big high b (s + k) (suc n - k) some (omega arith))
     ∙ ones_side big k (suc n - k) ∙ ap (λ (m : ℕ). 2 ^ m - 1) whole

@@ -10,9 +10,9 @@ use std::marker::PhantomData;
 
 /// The bits of a writable view, which are lent one at a time, from both ends: `iter_mut` makes it.
 ///
-/// The calls are those of [`crate::PiecesMut`], and each gives a reference to one bit. By
-/// [`IterMut::for_each_bit_mut`], and of a view by `for_each` and `fill_with` of `bitvec_edit`, which ask a
-/// closure for each bit, each bit is known afterwards.
+/// The calls are those of [`crate::PiecesMut`]: those in `_mut` give a reference to one bit, those in `_lent` a
+/// view of it. By [`IterMut::for_each_bit_mut`], and of a view by `for_each` and `fill_with` of `bitvec_edit`,
+/// which ask a closure for each bit, each bit is known afterwards.
 #[derive(Drop)]
 pub struct IterMut<'a, T: BitStore, O: BitOrder> {
     elements: &'a mut [T],

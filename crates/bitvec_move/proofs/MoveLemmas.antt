@@ -13,7 +13,7 @@ use Rattle.bitvec_store.specs.WidthLaws.{width_some}
 use Rattle.bitvec_cells.specs.Cost.{read_loads, touched_count, write_stores}
 use Rattle.bitvec_cells.specs.CostLaws.{touched_read, touched_stored}
 use Rattle.bitvec_words.specs.WholeLaws.{HasWindow-part}
-use Rattle.bitvec_words.specs.Moves.{Copies, Swaps}
+use Rattle.bitvec_words.specs.Moves.{Copies, SwapsWindows}
 
 -- ---- numbers
 
@@ -46,10 +46,10 @@ pub Copies-same : (b : ℕ) (at : ℕ → ℕ → ℕ) (old new other : List ℕ
     → Copies b at old new part other source → Copies b at old new to other from
 Copies-same b at old new other part source to from start len source_start source_len copies = rw (start, len, source_start, source_len) copies
 
-pub Swaps-same : (b : ℕ) (at : ℕ → ℕ → ℕ) (xs new_xs ys new_ys : List ℕ) (part source left right : Window)
+pub SwapsWindows-same : (b : ℕ) (at : ℕ → ℕ → ℕ) (xs new_xs ys new_ys : List ℕ) (part source left right : Window)
     → left.start ≡ part.start → left.len ≡ part.len → right.start ≡ source.start → right.len ≡ source.len
-    → Swaps b at xs new_xs ys new_ys part source → Swaps b at xs new_xs ys new_ys left right
-Swaps-same b at xs new_xs ys new_ys part source left right start len source_start source_len swaps = record {
+    → SwapsWindows b at xs new_xs ys new_ys part source → SwapsWindows b at xs new_xs ys new_ys left right
+SwapsWindows-same b at xs new_xs ys new_ys part source left right start len source_start source_len swaps = record {
   writes = Copies-same b at xs new_xs ys part source left right start len source_start source_len swaps.writes;
   right_writes = Copies-same b at ys new_ys xs source part right left source_start source_len start len swaps.right_writes;
 }

@@ -16,7 +16,7 @@ use Rattle.bitvec_cells.specs.WalkLaws.{first-len}
 use Rattle.bitvec_words.specs.Elements.{elements_window, elements_window_from}
 use Rattle.bitvec_words.specs.FieldLaws.{element_of, list-part, list-whole, part-stored}
 use Rattle.bitvec_words.specs.WholeLaws.{HasWindow-part}
-use Rattle.bitvec_words.specs.Moves.{Swaps}
+use Rattle.bitvec_words.specs.Moves.{SwapsWindows}
 
 -- ---- two windows side by side are a third
 
@@ -86,12 +86,12 @@ Writes-exchanged b at old mid new other middle first rest whole its_first its_re
     (ap (λ (l : List Bool). list_in b at other its_first ++ l) behind ∙ list-join b at other its_first its_rest its_whole its start next len)
 
 -- so both sides
-pub Swaps-joined : (b : ℕ) (at : ℕ → ℕ → ℕ) (xs mid new ys middle last : List ℕ) (first rest left its_first its_rest right : Window)
+pub SwapsWindows-joined : (b : ℕ) (at : ℕ → ℕ → ℕ) (xs mid new ys middle last : List ℕ) (first rest left its_first its_rest right : Window)
     → HasWindow b xs left → HasWindow b ys right
     → SideBySide first rest left → SideBySide its_first its_rest right
-    → Swaps b at xs mid ys middle first its_first → Swaps b at mid new middle last rest its_rest
-    → Swaps b at xs new ys last left right
-Swaps-joined b at xs mid new ys middle last first rest left its_first its_rest right has its beside its_beside before after = record {
+    → SwapsWindows b at xs mid ys middle first its_first → SwapsWindows b at mid new middle last rest its_rest
+    → SwapsWindows b at xs new ys last left right
+SwapsWindows-joined b at xs mid new ys middle last first rest left its_first its_rest right has its beside its_beside before after = record {
   writes = Writes-exchanged b at xs mid new ys middle first rest left its_first its_rest right _ has its beside its_beside before.writes after.writes before.right_writes;
   right_writes = Writes-exchanged b at ys middle last xs mid its_first its_rest right first rest left _ its has its_beside beside before.right_writes after.right_writes before.writes;
 }

@@ -1,5 +1,4 @@
-//! Bits that change places, many at a time: copied from window to window and within one window, two windows exchanged, one
-//! put in the opposite order.
+//! Bits that change places, many at a time: moved to another place of their memory, or exchanged between two windows.
 #![tactic(auto)]
 
 ghost use Rattle.std.specs.Prelude.{◌≡◌, ◌-◌, ◌%◌, ◌<◌, ◌≤◌, min};

@@ -100,7 +100,7 @@ fn move_whole<O: BitOrder, C: Cells, const LATER: bool>(cells: &mut C, moved: St
     requires span { HasSpan C.Elem.BITS (C.numbers cells.old) (C.numbers cells.old) (elements_window C.Elem.BITS moved.first moved.count) (elements_window_from C.Elem.BITS moved.source 0 moved.count) }
     requires towards { IsToward LATER moved.first moved.source }
     ensures writes { CopiesElements C.Elem.BITS O.at (C.numbers cells.old) (C.numbers cells.new) (C.numbers cells.old) moved.first moved.source 0 moved.count }
-    ensures cost { let late = late_words C.Elem.BITS (moved.count * C.Elem.BITS) in CostsAtMost C.CellsRead cells.old cells.new (moved.count + 1 + late) (moved.count + late) }
+    ensures cost { Costs C.CellsRead cells.old cells.new moved.count moved.count }
 {
     for passed in 0..moved.count {
         let place = next_place::<LATER>(passed, moved.count);

@@ -3,7 +3,7 @@ ghost use Rattle.std.specs.Prelude.{true};
 ghost use Rattle.bitvec_base.specs.Spans.{HasSpan};
 ghost use Rattle.bitvec_cells.specs.Access.{CostsAtMost};
 ghost use Rattle.bitvec_cells.specs.Cost.{edit_loads, write_stores};
-ghost use Rattle.bitvec_words.specs.Moves.{Swaps};
+ghost use Rattle.bitvec_words.specs.Moves.{SwapsWindows};
 
 use crate::swapping_equal::swap_equal;
 use crate::swapping_shifted::swap_shifted;
@@ -24,7 +24,7 @@ pub fn swap<O: WordOrder, C: Cells, D: Cells + CellsRead<Elem = C::Elem>>(
     right_window: Window,
 )
     requires { HasSpan C.Elem.BITS (C.numbers left.old) (D.numbers right.old) left_window right_window }
-    ensures swaps { Swaps C.Elem.BITS O.at (C.numbers left.old) (C.numbers left.new) (D.numbers right.old) (D.numbers right.new) left_window right_window }
+    ensures swaps { SwapsWindows C.Elem.BITS O.at (C.numbers left.old) (C.numbers left.new) (D.numbers right.old) (D.numbers right.new) left_window right_window }
     ensures cost { CostsAtMost C.CellsRead left.old left.new (edit_loads C.Elem.BITS true left_window.len) (write_stores C.Elem.BITS true left_window.len) }
     ensures right_cost { CostsAtMost D.CellsRead right.old right.new (edit_loads C.Elem.BITS true left_window.len) (write_stores C.Elem.BITS true left_window.len) }
 {

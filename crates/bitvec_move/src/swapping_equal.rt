@@ -5,7 +5,7 @@ ghost use Rattle.bitvec_base.specs.Spans.{HasSpan};
 ghost use Rattle.bitvec_cells.specs.Access.{Costs};
 ghost use Rattle.bitvec_cells.specs.Cost.{touched_count};
 ghost use Rattle.bitvec_words.specs.Elements.{elements_window};
-ghost use Rattle.bitvec_words.specs.Moves.{Swaps};
+ghost use Rattle.bitvec_words.specs.Moves.{SwapsWindows};
 
 use crate::{head_of, width};
 use bitvec_base::{BitOrder, Part, Window, tail_part, whole_elements};
@@ -25,7 +25,7 @@ pub fn swap_equal<O: BitOrder, C: Cells, D: Cells + CellsRead<Elem = C::Elem>>(
     requires span { HasSpan C.Elem.BITS (C.numbers left.old) (D.numbers right.old) left_window right_window }
     requires some { 0 < left_window.len }
     requires phases { left_window.start % C.Elem.BITS ≡ right_window.start % C.Elem.BITS }
-    ensures swaps { Swaps C.Elem.BITS O.at (C.numbers left.old) (C.numbers left.new) (D.numbers right.old) (D.numbers right.new) left_window right_window }
+    ensures swaps { SwapsWindows C.Elem.BITS O.at (C.numbers left.old) (C.numbers left.new) (D.numbers right.old) (D.numbers right.new) left_window right_window }
     ensures cost { let each = touched_count C.Elem.BITS left_window.start left_window.len in Costs C.CellsRead left.old left.new each each }
     ensures right_cost { let each = touched_count C.Elem.BITS right_window.start right_window.len in Costs D.CellsRead right.old right.new each each }
 {
@@ -54,7 +54,7 @@ fn swap_aligned<O: BitOrder, C: Cells, D: Cells + CellsRead<Elem = C::Elem>>(
     requires span { HasSpan C.Elem.BITS (C.numbers left.old) (D.numbers right.old) left_window right_window }
     requires edge { left_window.start % C.Elem.BITS ≡ 0 }
     requires right_edge { right_window.start % C.Elem.BITS ≡ 0 }
-    ensures swaps { Swaps C.Elem.BITS O.at (C.numbers left.old) (C.numbers left.new) (D.numbers right.old) (D.numbers right.new) left_window right_window }
+    ensures swaps { SwapsWindows C.Elem.BITS O.at (C.numbers left.old) (C.numbers left.new) (D.numbers right.old) (D.numbers right.new) left_window right_window }
     ensures cost { let each = touched_count C.Elem.BITS left_window.start left_window.len in Costs C.CellsRead left.old left.new each each }
     ensures right_cost { let each = touched_count C.Elem.BITS right_window.start right_window.len in Costs D.CellsRead right.old right.new each each }
 {
@@ -78,7 +78,7 @@ fn swap_whole<O: BitOrder, C: Cells, D: Cells + CellsRead<Elem = C::Elem>>(
     count: usize,
 )
     requires { HasSpan C.Elem.BITS (C.numbers left.old) (D.numbers right.old) (elements_window C.Elem.BITS first count) (elements_window C.Elem.BITS source count) }
-    ensures swaps { Swaps C.Elem.BITS O.at (C.numbers left.old) (C.numbers left.new) (D.numbers right.old) (D.numbers right.new)
+    ensures swaps { SwapsWindows C.Elem.BITS O.at (C.numbers left.old) (C.numbers left.new) (D.numbers right.old) (D.numbers right.new)
         (elements_window C.Elem.BITS first count) (elements_window C.Elem.BITS source count) }
     ensures cost { Costs C.CellsRead left.old left.new count count }
     ensures right_cost { Costs D.CellsRead right.old right.new count count }
@@ -101,7 +101,7 @@ fn swap_part<O: BitOrder, C: Cells, D: Cells + CellsRead<Elem = C::Elem>>(
 )
     requires part { HasPart C.Elem.BITS (C.numbers left.old) part }
     requires source { source < length (D.numbers right.old) }
-    ensures swaps { Swaps C.Elem.BITS O.at (C.numbers left.old) (C.numbers left.new) (D.numbers right.old) (D.numbers right.new)
+    ensures swaps { SwapsWindows C.Elem.BITS O.at (C.numbers left.old) (C.numbers left.new) (D.numbers right.old) (D.numbers right.new)
         (part_window C.Elem.BITS part) (part_window C.Elem.BITS (record part { element = source })) }
     ensures cost { Costs C.CellsRead left.old left.new 1 1 }
     ensures right_cost { Costs D.CellsRead right.old right.new 1 1 }

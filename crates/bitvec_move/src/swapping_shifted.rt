@@ -5,7 +5,7 @@ ghost use Rattle.bitvec_base.specs.Parts.{part_window};
 ghost use Rattle.bitvec_base.specs.Spans.{HasSpan};
 ghost use Rattle.bitvec_cells.specs.Access.{Costs};
 ghost use Rattle.bitvec_cells.specs.Cost.{touched_count};
-ghost use Rattle.bitvec_words.specs.Moves.{HasPartSpan, HasSkippedElements, HasSkippedSpan, Swaps, SwapsElements};
+ghost use Rattle.bitvec_words.specs.Moves.{HasPartSpan, HasSkippedElements, HasSkippedSpan, SwapsWindows, SwapsElements};
 
 use crate::{head_of, width};
 use bitvec_base::{BitOrder, Part, Window, tail_part};
@@ -27,7 +27,7 @@ pub(crate) fn swap_shifted<O: WordOrder, C: Cells, D: Cells + CellsRead<Elem = C
     requires span { HasSpan C.Elem.BITS (C.numbers left.old) (D.numbers right.old) left_window right_window }
     requires some { 0 < left_window.len }
     requires phases { left_window.start % C.Elem.BITS ≢ right_window.start % C.Elem.BITS }
-    ensures swaps { Swaps C.Elem.BITS O.at (C.numbers left.old) (C.numbers left.new) (D.numbers right.old) (D.numbers right.new) left_window right_window }
+    ensures swaps { SwapsWindows C.Elem.BITS O.at (C.numbers left.old) (C.numbers left.new) (D.numbers right.old) (D.numbers right.new) left_window right_window }
     ensures cost { let each = touched_count C.Elem.BITS left_window.start left_window.len in Costs C.CellsRead left.old left.new each each }
     ensures right_cost { let each = touched_count C.Elem.BITS right_window.start right_window.len in Costs D.CellsRead right.old right.new each each }
 {
@@ -57,7 +57,7 @@ fn swap_rest<O: WordOrder, C: Cells, D: Cells + CellsRead<Elem = C::Elem>>(
 )
     requires skipped { HasSkippedSpan C.Elem.BITS (C.numbers left.old) (D.numbers right.old) left_window right_window }
     requires some { 0 < left_window.len }
-    ensures swaps { Swaps C.Elem.BITS O.at (C.numbers left.old) (C.numbers left.new)
+    ensures swaps { SwapsWindows C.Elem.BITS O.at (C.numbers left.old) (C.numbers left.new)
         (slice_set (D.numbers right.old) (right_window.start / C.Elem.BITS) (C.Elem.value waiting)) (D.numbers right.new) left_window right_window }
     ensures cost { let each = touched_count C.Elem.BITS left_window.start left_window.len in Costs C.CellsRead left.old left.new each each }
     ensures right_cost { let each = touched_count C.Elem.BITS right_window.start right_window.len in Costs D.CellsRead right.old right.new (each - 1) each }
@@ -147,7 +147,7 @@ fn swap_waiting<O: WordOrder, C: Cells, D: Cells + CellsRead<Elem = C::Elem>>(
     waiting: C::Elem,
 ) -> C::Elem
     requires { HasPartSpan C.Elem.BITS (C.numbers left.old) (D.numbers right.old) part from }
-    ensures swaps { Swaps C.Elem.BITS O.at (C.numbers left.old) (C.numbers left.new)
+    ensures swaps { SwapsWindows C.Elem.BITS O.at (C.numbers left.old) (C.numbers left.new)
         (slice_set (D.numbers right.old) (from.start / C.Elem.BITS) (C.Elem.value waiting))
         (slice_set (D.numbers right.new) ((from.start + from.len - 1) / C.Elem.BITS) (C.Elem.value result)) (part_window C.Elem.BITS part) from }
     ensures cost { Costs C.CellsRead left.old left.new 1 1 }

@@ -1,11 +1,10 @@
 -- What a caller knows of the bits that a predicate kept.
-use Rattle.std.specs.Prelude.{◌≡◌, ℕ, ◌+◌, Bool, true, false, cond, List, [], ◌∷◌, ◌++◌, filter, length, refl}
+use Rattle.std.specs.Prelude.{◌≡◌, ℕ, ◌+◌, Bool, true, false, cond, List, [], ◌∷◌, filter, length, refl}
 use Rattle.std.specs.Borrow.{Bor}
 use Rattle.std.specs.Fn.{Mut}
 use Rattle.std.specs.List.{items_where_true}
 use Rattle.std.specs.List.Retain.{ReturnsInTurn}
-use Rattle.std.proofs.Common.{◌∙◌, ap, append_assoc, arith, length-append, subst, sym}
-use Rattle.std.proofs.lemmas.List.{append-nil}
+use Rattle.std.proofs.Common.{◌∙◌, ap, arith, subst}
 use Rattle.bitvec_split.specs.Asked.{Asks}
 use Rattle.bitvec_owned.specs.KeptBy.{kept_by}
 use Rattle.bitvec_owned.specs.Retained.{AsksNext, Retains}
@@ -41,30 +40,3 @@ module _ {P : Type 0} (g : Mut P (ℕ × (Bor Bool × Unit {0})) Bool) where
   pub retained_filter : (test : Bool → Bool) (pred : P) → ((index : ℕ) (bit answer : Bool) (next : P) → Asks g pred index bit answer next → (next ≡ pred) × (answer ≡ test bit))
       → (old new : List Bool) → Retains g pred old new → new ≡ filter test old
   retained_filter test pred acts old new asked = retained_by (λ i bit. test bit) pred acts old new asked ∙ kept-filter test 0 old
-
-  -- J holds of what was asked so far, of what of it was kept and of the predicate after that, where each question keeps it
-  module _ (J : List Bool → List Bool → P → Type 0)
-      (keeps : (done new : List Bool) (pred : P) (bit answer : Bool) (next : P) → J done new pred → Asks g pred (length done) bit answer next → J (done ++ (bit ∷ [])) (cond answer (new ++ (bit ∷ [])) new) next) where
-    keep-on : (answers list done new : List Bool) (before last : ℕ × P) → before.0 ≡ length done → J done new before.1 → length answers ≡ length list
-        → ReturnsInTurn (AsksNext g) before answers list last → J (done ++ list) (new ++ items_where_true answers list) last.1
-    keep-on [] [] done new before last at held long asked =
-        subst (λ (l : List Bool). J l (new ++ []) last.1) (sym (append-nil done)) (subst (λ (l : List Bool). J done l last.1) (sym (append-nil new)) (subst (λ (s : ℕ × P). J done new s.1) asked held))
-    keep-on [] (bit ∷ list) done new before last at held long asked = absurd (omega (arith, long))
-    keep-on (answer ∷ answers) [] done new before last at held long asked = absurd asked
-    keep-on (true ∷ answers) (bit ∷ list) done new before last at held long asked =
-        let next = keeps done new before.1 bit true asked.0.1 held (subst (λ (i : ℕ). Asks g before.1 i bit true asked.0.1) at asked.1.1) in
-        let size = length-append done (bit ∷ []) in
-        let step = asked.1.0 in
-        subst (λ (l : List Bool). J l (new ++ (bit ∷ items_where_true answers list)) last.1) (append_assoc done (bit ∷ []) list)
-        (subst (λ (l : List Bool). J ((done ++ (bit ∷ [])) ++ list) l last.1) (append_assoc new (bit ∷ []) (items_where_true answers list))
-        (keep-on answers list (done ++ (bit ∷ [])) (new ++ (bit ∷ [])) asked.0 last (omega (arith, step, at, size)) next (omega (arith, long)) asked.2))
-    keep-on (false ∷ answers) (bit ∷ list) done new before last at held long asked =
-        let next = keeps done new before.1 bit false asked.0.1 held (subst (λ (i : ℕ). Asks g before.1 i bit false asked.0.1) at asked.1.1) in
-        let size = length-append done (bit ∷ []) in
-        let step = asked.1.0 in
-        subst (λ (l : List Bool). J l (new ++ items_where_true answers list) last.1) (append_assoc done (bit ∷ []) list)
-        (keep-on answers list (done ++ (bit ∷ [])) new asked.0 last (omega (arith, step, at, size)) next (omega (arith, long)) asked.2)
-
-    pub retained_keep : (pred : P) (old new : List Bool) → J [] [] pred → Retains g pred old new → (last : P) × J old new last
-    retained_keep pred old new first asked =
-        (asked.1.1, subst (λ (l : List Bool). J old l asked.1.1) (sym asked.4) (keep-on asked.0 old [] [] (0, pred) asked.1 refl first asked.2 asked.3))

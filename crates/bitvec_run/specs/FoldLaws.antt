@@ -1,5 +1,5 @@
 -- Steps made one after the other, a step at a time, whatever a step is.
-use Rattle.std.specs.Prelude.{◌≡◌, ℕ, ◌+◌, ◌<◌, ◌≤◌, List, [], ◌∷◌, ◌++◌, length, take, slice_index_or, refl, suc}
+use Rattle.std.specs.Prelude.{◌≡◌, ℕ, ◌+◌, ◌<◌, ◌≤◌, List, [], ◌∷◌, ◌++◌, length, take, slice_index_or, refl}
 use Rattle.std.proofs.Common.{arith, ◌∙◌, ap}
 use Rattle.std.proofs.lemmas.List.Sums.{sum_by_more}
 use Rattle.std.proofs.lemmas.List.{take_all, take_more}
@@ -22,11 +22,6 @@ module _ {L S : Type 0} (next : L → S → L) where
   pub after-all : (list : L) (steps : List S) (i : ℕ) → length steps ≤ i → list_after next list (take i steps) ≡ list_after next list steps
   after-all list steps i over = ap (list_after next list) (take_all i steps over)
 
-  -- what each step keeps is kept
-  pub after-keeps : {X : Type 0} (size : L → X) → ((list : L) (step : S) → size (next list step) ≡ size list) → (list : L) (steps : List S) → size (list_after next list steps) ≡ size list
-  after-keeps size keeps list [] = refl
-  after-keeps size keeps list (step ∷ steps) = after-keeps size keeps (next list step) steps ∙ keeps list step
-
 module _ {L S R : Type 0} (reply : L → S → R) (next : L → S → L) where
   replies-one : (list : L) (steps : List S) (step : S) → replies_of reply next list (steps ++ (step ∷ [])) ≡ replies_of reply next list steps ++ (reply (list_after next list steps) step ∷ [])
   replies-one list [] step = refl
@@ -39,11 +34,6 @@ module _ {L S R : Type 0} (reply : L → S → R) (next : L → S → L) where
 
   pub replies-all : (list : L) (steps : List S) (i : ℕ) → length steps ≤ i → replies_of reply next list (take i steps) ≡ replies_of reply next list steps
   replies-all list steps i over = ap (replies_of reply next list) (take_all i steps over)
-
-  -- there is one for each step
-  pub replies-length : (list : L) (steps : List S) → length (replies_of reply next list steps) ≡ length steps
-  replies-length list [] = refl
-  replies-length list (step ∷ steps) = ap suc (replies-length (next list step) steps)
 
 -- the accesses of one step more
 module _ {E C S : Type 0} (access : Access C E) (cost : S → Cost) where

@@ -10,6 +10,10 @@ use Rattle.bitvec_segments.specs.Segments.{in_first, segments}
 abbrev pub first_len : ℕ → ℕ → ℕ → ℕ
 first_len b s n = min n (b - s % b)
 
+-- there is one, where the list has any
+pub first-some : (b s n : ℕ) → 0 < b → 0 < n → 0 < first_len b s n
+first-some b s n some more = let below = mod_below s b some in omega arith
+
 -- the next place stands in the same element, or at the start of the next one
 next_inside : (b s : ℕ) → s % b + 1 < b → (s + 1) % b ≡ s % b + 1
 next_inside b s inside =

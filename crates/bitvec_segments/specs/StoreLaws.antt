@@ -4,21 +4,17 @@ use Rattle.std.specs.List.{sum_by}
 use Rattle.std.proofs.Common.{arith, sym, ◌∙◌, ap, length-append, length-drop}
 use Rattle.std.proofs.lemmas.List.{length-take, take-append-drop}
 use Rattle.std.proofs.lemmas.List.Sums.{sum_by-cons}
-use Rattle.std.proofs.lemmas.Nat.{div-mul-add, mod-pow-add, mod_below, pow-add, pow_pos}
+use Rattle.std.proofs.lemmas.Nat.{div-mul-add, mod-pow-add, pow-add, pow_pos}
 use Rattle.std.proofs.Math.Nat.{mul-add-div_right, mul-add-mod_self_right}
 use Rattle.std.proofs.Math.Seq.{take-append_seam, drop-append_seam}
 use Rattle.bitvec_base.specs.MemoryLaws.{length-element_bits}
 use Rattle.bitvec_segments.specs.LoadLaws.{loaded-below, loaded-first, loaded-none, lower_bits, segments-total}
 use Rattle.bitvec_segments.specs.NumberLaws.{segment-number, segment-told, segment_bits-mod, segment_number-below}
 use Rattle.bitvec_segments.specs.Segments.{bit_number, end_bits, loaded, loaded_be, loaded_le, segment_bits, segment_number, segments, stored, stored_be, stored_le}
-use Rattle.bitvec_segments.specs.SegmentsLaws.{first_len, segments-first}
+use Rattle.bitvec_segments.specs.SegmentsLaws.{first-some, first_len, segments-first}
 
 unmoved : (v : ℕ) → v / 2 ^ 0 ≡ v
 unmoved v = omega arith
-
--- a segment has bits
-first-some : (b s n : ℕ) → 0 < b → 0 < n → 0 < first_len b s n
-first-some b s n some more = let below = mod_below s b some in omega arith
 
 -- ---- a store's list is as long as the one before
 

@@ -70,7 +70,7 @@ pub trait FieldOrder: WordOrder {
     }
 }
 
-// Both impls write the bodies that the trait has: one that is taken over is compiled as a call, without the trait's mark.
+// Both impls write the loads as the trait has them: a body that is taken over is compiled as a call, without the trait's mark.
 
 impl FieldOrder for Lsb0 {
     #[inline(always)]

@@ -13,8 +13,7 @@ use bitvec_store::BitStore;
 use bitvec_words::{WORD_BITS, WordOrder, load_element, load_elements};
 
 /// The number of a window's segments. Condition: the window has at most 128 bits, and lies in a
-/// memory of at most `MAX_BITS` bits. It loads each element that the window touches once, and takes no
-/// loop where the window lies in one element or two.
+/// memory of at most `MAX_BITS` bits. It loads each element that the window touches once.
 ///
 /// Where the segments make one number under the order, the elements of a word are loaded at once, and a window no
 /// longer than an element as an element.

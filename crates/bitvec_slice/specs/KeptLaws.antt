@@ -1,9 +1,6 @@
 -- A view of which a range of elements was lent keeps the others.
-use Rattle.std.specs.Prelude.{◌≡◌, ℕ, ◌+◌, ◌*◌, ◌<◌, ◌≤◌, ◌⊎◌, List, length}
-use Rattle.std.proofs.Common.{arith, sym, ⊎_elim, inl, inr}
-use Rattle.std.proofs.Math.Nat.{add-mul, lt_of_mul-lt-mul_right}
-use Rattle.std.proofs.lemmas.Grind.{div_ceil_times}
-use Rattle.std.proofs.lemmas.Nat.{le-div}
+use Rattle.std.specs.Prelude.{◌≡◌, ℕ, ◌+◌, ◌<◌, ◌≤◌, List, length}
+use Rattle.std.proofs.Common.{arith, sym}
 use Rattle.bitvec_store.specs.declared.store.BitStore.{Ghosts as Store}
 use Rattle.bitvec_base.specs.declared.order.BitOrder.{Ghosts as Order}
 use Rattle.bitvec_domain.specs.Kept.{KeepsOutside}
@@ -14,16 +11,6 @@ use Rattle.bitvec_slice.specs.Touched.{end_touched, first_touched}
 use Rattle.bitvec_slice.specs.TouchedLaws.{touches}
 use Rattle.bitvec_slice.specs.Views.{seen_mut}
 use Rattle.bitvec_slice.specs.declared.view_mut.BitSliceMut.{BitSliceMut}
-
--- an element that ends where a range of places begins, or before, or that begins where it ends, or behind, is not touched
-pub untouched : (b start end e : ℕ) → 0 < b → (e * b + b ≤ start) ⊎ (end ≤ e * b) → (e < first_touched b start) ⊎ (end_touched b end ≤ e)
-untouched b start end e some outside =
-    let next = add-mul e 1 b in
-    let ends = div_ceil_times end b some in
-    ⊎_elim (λ (below : e * b + b ≤ start). let before = le-div (e + 1) start b some (omega arith) in inl (omega arith))
-    (λ (past : end ≤ e * b).
-    let last : end_touched b end < e + 1 = lt_of_mul-lt-mul_right b (omega arith) in
-    inr (omega arith)) outside
 
 module _ {T O : Type 0} {t : Store T} {o : Order O} (v : BitSliceMut T O t o) where
   -- what a view ends as after a lend of its bits from `from` up to `to`, which stand at the places from `start` up to `end`, whatever was left in the elements that these touch

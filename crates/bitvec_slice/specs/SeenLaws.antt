@@ -1,24 +1,18 @@
 -- The bits that a view shows, of all of a memory, and of a part of a view.
-use Rattle.std.specs.Prelude.{◌≡◌, ℕ, ◌+◌, ◌-◌, ◌*◌, ◌%◌, ◌≤◌, Bool, cond, List, [], count_by, length, map, slice_range, refl}
+use Rattle.std.specs.Prelude.{◌≡◌, ℕ, ◌+◌, ◌-◌, ◌*◌, ◌%◌, ◌≤◌, List, [], length, map, slice_range, refl}
 use Rattle.std.proofs.Common.{arith, sym, ◌∙◌, ap}
 use Rattle.std.proofs.lemmas.List.{length-map, nil_from_length}
-use Rattle.std.proofs.lemmas.List.Sums.{sum_by-take-drop}
 use Rattle.bitvec_base.specs.Memory.{HasWindow, memory_bits}
 use Rattle.bitvec_base.specs.MemoryLaws.{length-memory_bits}
-use Rattle.bitvec_base.specs.SliceLaws.{range-all, range-from_start, range-map, range-to_end}
+use Rattle.bitvec_base.specs.SliceLaws.{range-all, range-map}
 use Rattle.bitvec_base.specs.Window.{IsWithin, max_bits, window_of}
 use Rattle.bitvec_base.specs.WindowLaws.{length-window}
 use Rattle.bitvec_base.specs.WriteLaws.{range-range}
 use Rattle.bitvec_store.specs.Width.{IsWidth}
 use Rattle.bitvec_store.specs.WidthLaws.{width_some}
-use Rattle.bitvec_slice.specs.Seen.{AreHalves, CoversElements, IsEmpty, IsRangeOf, IsWhole, Seen, shown}
+use Rattle.bitvec_slice.specs.Seen.{CoversElements, IsEmpty, IsRangeOf, IsWhole, Seen, shown}
 use Rattle.bitvec_slice.specs.Touched.{touched_elements}
 use Rattle.bitvec_slice.specs.TouchedLaws.{touched-bits}
-
--- what of two halves of a view meets p adds up
-pub halves-count : {T : Type 0} {b : ℕ} (view left right : Seen T) (mid : ℕ) → length view.bits ≤ view.window.len → AreHalves b view mid left right → (p : Bool → Bool) → count_by p left.bits + count_by p right.bits ≡ count_by p view.bits
-halves-count view left right mid all are p =
-    rw (are.front.bits, range-from_start view.bits mid mid refl, are.rest.bits, range-to_end view.bits mid view.window.len all) (sum_by-take-drop (λ (bit : Bool). cond (p bit) 1 0) view.bits mid)
 
 module _ {T : Type 0} (b : ℕ) (at : ℕ → ℕ → ℕ) (value : T → ℕ) where
   pub length-memory : (elements : List T) → length (memory_bits b at (map value elements)) ≡ b * length elements

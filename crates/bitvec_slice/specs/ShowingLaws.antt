@@ -18,9 +18,6 @@ module _ {T O : Type 0} {t : Store T} {o : Order O} where
     pub length-seen : length (seen v).bits ≡ (seen v).window.len
     length-seen = length_bits t.BITS o.at t.value v.elements.now v.head v.len v.inside
 
-    pub within-seen : IsWithin (seen v).window (length (seen v).memory)
-    within-seen = within_memory t.BITS o.at t.value v.elements.now v.head v.len v.inside
-
     pub few-seen : (seen v).window.len ≤ max_bits
     few-seen =
         let inside = v.inside in
@@ -36,9 +33,3 @@ module _ {T O : Type 0} {t : Store T} {o : Order O} where
 
     pub within-seen_mut : IsWithin (seen_mut v).window (length (seen_mut v).memory)
     within-seen_mut = within_memory t.BITS o.at t.value v.elements.now v.head v.len v.inside
-
-    pub few-seen_mut : (seen_mut v).window.len ≤ max_bits
-    few-seen_mut =
-        let inside = v.inside in
-        let bounded = v.bounded in
-        omega arith

@@ -22,6 +22,7 @@ use std::ops::Range;
 ///
 /// - views: `as_mut`, `part_mut`, `into_part`, `split_apart_mut`, `!`, and by a range `get_mut`,
 ///   `get_unchecked_mut` and the calls of [`crate::BitSliceIndex`];
+/// - a view in a [`crate::Lent`], if there is one: `get_lent`, `first_lent`, `last_lent`;
 /// - references to one bit: `bit_mut`, `into_bit`, `first_mut`, `last_mut`, and by an index `get_mut`
 ///   and its kin;
 /// - elements and parts of them: `domain_mut`, and as views `bit_domain_mut`;

@@ -15,7 +15,7 @@ use Rattle.bitvec_words.specs.Operator.{operator}
 use Rattle.bitvec_words.specs.declared.operator.BitOp.{BitOp}
 use Rattle.bitvec_within.specs.Combined.{combined_within}
 use Rattle.bitvec_within.specs.CombinedLaws.{combined_within-before, combined_within-next, combined_within-none}
-use Rattle.bitvec_within.specs.Ranges.{AreSides, Combines, HasRanges, LieInOrder, combined_ranges, first_of, joined_sides, rest_of}
+use Rattle.bitvec_within.specs.Ranges.{AreSides, CombinesRanges, HasRanges, LieInOrder, combined_ranges, first_of, joined_sides, rest_of}
 use Rattle.bitvec_within.specs.declared.combining_within.Ranges.{Ranges}
 use Rattle.bitvec_within.proofs.Edges.{Writes-in_front, Writes-in_rest, list-in_front, list-in_rest}
 
@@ -40,7 +40,7 @@ module _ (op : BitOp) (r : Ranges) (list : List Bool) (source : r.from + r.len �
       combined_within-before (operator op) list r.from r.to n (r.len - n) (omega arith) (omega arith) kept ∙ ap (λ k. combined_within (operator op) r.from (r.from + k) r.to list) sum
 
 -- what is written to a window
-pub window-combined : (b : ℕ) (at : ℕ → ℕ → ℕ) (old new : List ℕ) (r : Ranges) (op : BitOp) → Writes b at old new (target_of r) (combined (operator op) (list_in b at old (target_of r)) (list_in b at old (source_of r))) → Combines b at old new r op
+pub window-combined : (b : ℕ) (at : ℕ → ℕ → ℕ) (old new : List ℕ) (r : Ranges) (op : BitOp) → Writes b at old new (target_of r) (combined (operator op) (list_in b at old (target_of r)) (list_in b at old (source_of r))) → CombinesRanges b at old new r op
 unfolding combined_within window_of
 window-combined b at old new r op writes =
     let count : r.from + r.len - r.from ≡ r.len = omega arith in
@@ -48,7 +48,7 @@ window-combined b at old new r op writes =
     record { bits = rw count wrote; elements = writes.elements }
 
 -- no bit is combined
-pub none-combined : (b : ℕ) (at : ℕ → ℕ → ℕ) (xs : List ℕ) (r : Ranges) (op : BitOp) → HasRanges b xs r → r.len ≡ 0 → Combines b at xs xs r op
+pub none-combined : (b : ℕ) (at : ℕ → ℕ → ℕ) (xs : List ℕ) (r : Ranges) (op : BitOp) → HasRanges b xs r → r.len ≡ 0 → CombinesRanges b at xs xs r op
 none-combined b at xs r op has none =
     let long = length-memory_bits b at xs in
     let target = has.target in
@@ -67,7 +67,7 @@ pub is_earlier : (n : ℕ) → n ≡ 0 → not (nat_eq n 0) ≡ false
 is_earlier n none = rw none refl
 
 -- they are combined one after the other
-pub parts-combined : (b : ℕ) (at : ℕ → ℕ → ℕ) (old mid new : List ℕ) (r : Ranges) (op : BitOp) (n : ℕ) (later : Bool) → HasRanges b old r → n ≤ r.len → LieInOrder later r → Combines b at old mid (first_of r n) op → Combines b at mid new (rest_of r n) op → Combines b at old new r op
+pub parts-combined : (b : ℕ) (at : ℕ → ℕ → ℕ) (old mid new : List ℕ) (r : Ranges) (op : BitOp) (n : ℕ) (later : Bool) → HasRanges b old r → n ≤ r.len → LieInOrder later r → CombinesRanges b at old mid (first_of r n) op → CombinesRanges b at mid new (rest_of r n) op → CombinesRanges b at old new r op
 parts-combined b at old mid new r op n later has fits apart first second =
     let long = length-memory_bits b at old in
     let source = has.source in
@@ -79,7 +79,7 @@ parts-combined b at old mid new r op n later has fits apart first second =
 
 -- bits of a window are combined, and so that is edited
 window-writes : (b : ℕ) (at : ℕ → ℕ → ℕ) (old new : List ℕ) (window : Window) (f e d : ℕ) (op : BitOp) → HasWindow b old (window_range window d (d + (e - f)))
-    → Combines b at old new (record { from = window.start + f; to = window.start + d; len = e - f }) op
+    → CombinesRanges b at old new (record { from = window.start + f; to = window.start + d; len = e - f }) op
     → Writes b at old new (window_range window d (d + (e - f))) (combined (operator op) (list_in b at old (window_range window d (d + (e - f)))) (list_in b at old (window_range window f e)))
 unfolding combined_within window_of
 window-writes b at old new window f e d op part combines =
@@ -89,7 +89,7 @@ window-writes b at old new window f e d op part combines =
     record { bits = rw count wrote; long = length-combined (operator op) (list_in b at old target) (list_in b at old (window_range window f e)) ∙ length-list b at old target part; elements = combines.elements }
 
 pub window-edited : (b : ℕ) (at : ℕ → ℕ → ℕ) (old new : List ℕ) (window : Window) (f e d : ℕ) (op : BitOp) → HasWindow b old window → FitsWithin f e d window.len
-    → Combines b at old new (record { from = window.start + f; to = window.start + d; len = e - f }) op → Edits b at old new window (combined_within (operator op) f e d)
+    → CombinesRanges b at old new (record { from = window.start + f; to = window.start + d; len = e - f }) op → Edits b at old new window (combined_within (operator op) f e d)
 unfolding combined_within
 window-edited b at old new window f e d op has fits combines =
     let order = fits.order in
@@ -100,10 +100,10 @@ window-edited b at old new window f e d op has fits combines =
     Writes-is b at old new window _ _ (Writes-range b at old new window d (d + (e - f)) _ has (omega arith) room (window-writes b at old new window f e d op part combines)) (rw (read, written) refl)
 
 -- what is left after a part of two: the last bits of each are combined, and then the first ones
-pub turn-last : (b : ℕ) (at : ℕ → ℕ → ℕ) (now new : List ℕ) (left : Ranges) (op : BitOp) (parts : Ranges × Ranges) (n : ℕ) → HasRanges b now left → n ≤ left.len → left.from ≤ left.to → parts ≡ (rest_of left n, first_of left n) → Combines b at now new parts.0 op
+pub turn-last : (b : ℕ) (at : ℕ → ℕ → ℕ) (now new : List ℕ) (left : Ranges) (op : BitOp) (parts : Ranges × Ranges) (n : ℕ) → HasRanges b now left → n ≤ left.len → left.from ≤ left.to → parts ≡ (rest_of left n, first_of left n) → CombinesRanges b at now new parts.0 op
     → HasRanges b new parts.1 × (combined_ranges op parts.1 (memory_bits b at new) ≡ combined_ranges op left (memory_bits b at now))
 turn-last b at now new left op parts n has short order is combines =
-    let done : Combines b at now new (rest_of left n) op = rw is at combines in
+    let done : CombinesRanges b at now new (rest_of left n) op = rw is at combines in
     let long = length-memory_bits b at now in
     let product : b * length new ≡ b * length now = ap (λ k. b * k) done.elements in
     let fits = has.fits in
@@ -112,10 +112,10 @@ turn-last b at now new left op parts n has short order is combines =
     rw is (record { fits = omega arith; source = omega arith; target = omega arith }, ap (combined_ranges op (first_of left n)) done.bits ∙ first-last op left (memory_bits b at now) (omega arith) (omega arith) n short order)
 
 -- and the other way
-pub turn-first : (b : ℕ) (at : ℕ → ℕ → ℕ) (now new : List ℕ) (left : Ranges) (op : BitOp) (parts : Ranges × Ranges) (n : ℕ) → HasRanges b now left → n ≤ left.len → left.to ≤ left.from → parts ≡ (first_of left n, rest_of left n) → Combines b at now new parts.0 op
+pub turn-first : (b : ℕ) (at : ℕ → ℕ → ℕ) (now new : List ℕ) (left : Ranges) (op : BitOp) (parts : Ranges × Ranges) (n : ℕ) → HasRanges b now left → n ≤ left.len → left.to ≤ left.from → parts ≡ (first_of left n, rest_of left n) → CombinesRanges b at now new parts.0 op
     → HasRanges b new parts.1 × (combined_ranges op parts.1 (memory_bits b at new) ≡ combined_ranges op left (memory_bits b at now))
 turn-first b at now new left op parts n has short order is combines =
-    let done : Combines b at now new (first_of left n) op = rw is at combines in
+    let done : CombinesRanges b at now new (first_of left n) op = rw is at combines in
     let long = length-memory_bits b at now in
     let product : b * length new ≡ b * length now = ap (λ k. b * k) done.elements in
     let fits = has.fits in
@@ -135,7 +135,7 @@ far_of r = record { start = 0; len = r.len }
 
 module _ (b : ℕ) (at : ℕ → ℕ → ℕ) (some : 0 < b) (front rest new : List ℕ) (r : Ranges) (op : BitOp) (has : HasRanges b (front ++ rest) r) where
   -- the bits of the first part are combined with those of the other
-  front-combined : r.to + r.len ≤ r.from → b * length front ≡ r.from → Writes b at front new (target_of r) (combined (operator op) (list_in b at front (target_of r)) (list_in b at rest (far_of r))) → Combines b at (front ++ rest) (new ++ rest) r op
+  front-combined : r.to + r.len ≤ r.from → b * length front ≡ r.from → Writes b at front new (target_of r) (combined (operator op) (list_in b at front (target_of r)) (list_in b at rest (far_of r))) → CombinesRanges b at (front ++ rest) (new ++ rest) r op
   front-combined apart cut writes =
       let inside = both-inside b front rest r.to r.from r.len has.fits apart has.source cut in
       let place : b * length front + 0 ≡ r.from = omega arith in
@@ -144,7 +144,7 @@ module _ (b : ℕ) (at : ℕ → ℕ → ℕ) (some : 0 < b) (front rest new : L
       window-combined b at (front ++ rest) (new ++ rest) r op (Writes-is b at (front ++ rest) (new ++ rest) (target_of r) _ _ (Writes-in_front b at some front rest new (target_of r) _ inside.0 writes) (rw (near-is, far-is) refl))
 
   -- and the other way
-  rest-combined : r.from + r.len ≤ r.to → b * length front ≡ r.to → Writes b at rest new (far_of r) (combined (operator op) (list_in b at rest (far_of r)) (list_in b at front (source_of r))) → Combines b at (front ++ rest) (front ++ new) r op
+  rest-combined : r.from + r.len ≤ r.to → b * length front ≡ r.to → Writes b at rest new (far_of r) (combined (operator op) (list_in b at rest (far_of r)) (list_in b at front (source_of r))) → CombinesRanges b at (front ++ rest) (front ++ new) r op
   rest-combined apart cut writes =
       let inside = both-inside b front rest r.from r.to r.len has.fits apart has.target cut in
       let place : b * length front + 0 ≡ r.to = omega arith in
@@ -168,7 +168,7 @@ cut_windows false r = (target_of r, far_of r)
 module _ {A : Type 0} (b bits m : ℕ) (value : A → ℕ) (cells left right : List A) (r : Ranges) (same : bits ≡ b) (has : HasRanges b (map value cells) r) (last : m ≡ max r.from r.to) (edge : m % b ≡ 0) where
   pub sides-combined : (at : ℕ → ℕ → ℕ) (some : 0 < b) (new : List A) (op : BitOp) (later : Bool) → LieInOrder later r → AreSides later (m / bits) cells left right
       → Writes b at (map value left) (map value new) (cut_windows later r).0 (combined (operator op) (list_in b at (map value left) (cut_windows later r).0) (list_in b at (map value right) (cut_windows later r).1))
-      → Combines b at (map value cells) (map value (joined_sides later new right)) r op
+      → CombinesRanges b at (map value cells) (map value (joined_sides later new right)) r op
   sides-combined at some new op true apart sides writes =
       let cut = cut-at b bits value right m r.to same sides.1 edge (omega arith) in
       let all = rw (sides.0, map-append value right left) at has in

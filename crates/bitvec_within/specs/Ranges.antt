@@ -32,7 +32,7 @@ abbrev pub combined_ranges : BitOp → Ranges → List Bool → List Bool
 combined_ranges op r list = combined_within (operator op) r.from (r.from + r.len) r.to list
 
 -- a memory becomes one that has these
-pub record Combines (b : ℕ) (at : ℕ → ℕ → ℕ) (old new : List ℕ) (r : Ranges) (op : BitOp) : Type 0 where
+pub record CombinesRanges (b : ℕ) (at : ℕ → ℕ → ℕ) (old new : List ℕ) (r : Ranges) (op : BitOp) : Type 0 where
   pub bits : memory_bits b at new ≡ combined_ranges op r (memory_bits b at old)
   pub elements : length new ≡ length old
 

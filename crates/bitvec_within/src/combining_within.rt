@@ -6,7 +6,7 @@ ghost use Rattle.bitvec_base.specs.Lists.{FitsWithin};
 ghost use Rattle.bitvec_base.specs.Memory.{Edits, HasWindow};
 ghost use Rattle.bitvec_words.specs.Operator.{operator};
 ghost use Rattle.bitvec_within.specs.Combined.{combined_within};
-ghost use Rattle.bitvec_within.specs.Ranges.{AreSides, Combines, HasRanges, LieInOrder, first_of, joined_sides, rest_of};
+ghost use Rattle.bitvec_within.specs.Ranges.{AreSides, CombinesRanges, HasRanges, LieInOrder, first_of, joined_sides, rest_of};
 
 use bitvec_base::Window;
 use bitvec_elements::combine_block_in;
@@ -65,7 +65,7 @@ pub fn combine_within_in<T: BitStore, O: SliceOrder>(
     }
 }
 
-/// Combines ranges that lie apart. Whole elements of both go by a way of their own.
+/// CombinesRanges ranges that lie apart. Whole elements of both go by a way of their own.
 #[inline(always)]
 fn combine_apart<T: BitStore, O: SliceOrder, const LATER: bool>(
     elements: &mut [T],
@@ -74,7 +74,7 @@ fn combine_apart<T: BitStore, O: SliceOrder, const LATER: bool>(
 )
     requires ranges { HasRanges T.BITS (map T.value elements.old) ranges }
     requires apart { LieInOrder LATER ranges }
-    ensures combines { Combines T.BITS O.at (map T.value elements.old) (map T.value elements.new) ranges op }
+    ensures combines { CombinesRanges T.BITS O.at (map T.value elements.old) (map T.value elements.new) ranges op }
 {
     let bits = T::BITS as usize;
     let Ranges { from, to, len } = ranges;
@@ -105,7 +105,7 @@ fn combine_any<T: BitStore, O: SliceOrder, const LATER: bool>(
 )
     requires ranges { HasRanges T.BITS (map T.value elements.old) ranges }
     requires apart { LieInOrder LATER ranges }
-    ensures combines { Combines T.BITS O.at (map T.value elements.old) (map T.value elements.new) ranges op }
+    ensures combines { CombinesRanges T.BITS O.at (map T.value elements.old) (map T.value elements.new) ranges op }
 {
     match op {
         BitOp::And => combine_parts::<T, O, LATER>(elements, ranges, BitOp::And),
@@ -124,7 +124,7 @@ fn combine_parts<T: BitStore, O: SliceOrder, const LATER: bool>(
 )
     requires ranges { HasRanges T.BITS (map T.value elements.old) ranges }
     requires apart { LieInOrder LATER ranges }
-    ensures combines { Combines T.BITS O.at (map T.value elements.old) (map T.value elements.new) ranges op }
+    ensures combines { CombinesRanges T.BITS O.at (map T.value elements.old) (map T.value elements.new) ranges op }
 {
     let later = ranges.from.max(ranges.to);
     let head = later.next_multiple_of(T::BITS as usize) - later;
@@ -156,7 +156,7 @@ fn combine_cut<T: BitStore, O: SliceOrder, const LATER: bool>(
     requires ranges { HasRanges T.BITS (map T.value elements.old) ranges }
     requires apart { LieInOrder LATER ranges }
     requires edge { max ranges.from ranges.to % T.BITS ≡ 0 }
-    ensures combines { Combines T.BITS O.at (map T.value elements.old) (map T.value elements.new) ranges op }
+    ensures combines { CombinesRanges T.BITS O.at (map T.value elements.old) (map T.value elements.new) ranges op }
 {
     let Ranges { from, to, len } = ranges;
     let far = Window { start: 0, len };
@@ -169,11 +169,11 @@ fn combine_cut<T: BitStore, O: SliceOrder, const LATER: bool>(
     combine_block_in::<T, O>(left, windows.0, &*right, windows.1, op);
 }
 
-/// Combines ranges that overlap. The source is held aside, in an array where the memory has as many elements.
+/// CombinesRanges ranges that overlap. The source is held aside, in an array where the memory has as many elements.
 #[inline(always)]
 fn combine_overlapping<T: BitStore, O: SliceOrder>(elements: &mut [T], ranges: Ranges, op: BitOp)
     requires ranges { HasRanges T.BITS (map T.value elements.old) ranges }
-    ensures combines { Combines T.BITS O.at (map T.value elements.old) (map T.value elements.new) ranges op }
+    ensures combines { CombinesRanges T.BITS O.at (map T.value elements.old) (map T.value elements.new) ranges op }
 {
     let bits = T::BITS as usize;
     let (most, touched) = (elements.len(), ranges.from % bits + ranges.len);
@@ -194,7 +194,7 @@ fn combine_overlapping<T: BitStore, O: SliceOrder>(elements: &mut [T], ranges: R
 #[inline(never)]
 fn combine_long<T: BitStore, O: SliceOrder>(elements: &mut [T], ranges: Ranges, op: BitOp)
     requires ranges { HasRanges T.BITS (map T.value elements.old) ranges }
-    ensures combines { Combines T.BITS O.at (map T.value elements.old) (map T.value elements.new) ranges op }
+    ensures combines { CombinesRanges T.BITS O.at (map T.value elements.old) (map T.value elements.new) ranges op }
 {
     let (bits, most) = (T::BITS as usize, elements.len());
     if ranges.len <= bits {
@@ -221,7 +221,7 @@ fn combine_blocks<T: BitStore, O: SliceOrder, const HELD: usize>(
     requires held { 1 < HELD }
     requires few { HELD ≤ 8192 }
     requires many { HELD ≤ length elements.old }
-    ensures combines { Combines T.BITS O.at (map T.value elements.old) (map T.value elements.new) ranges op }
+    ensures combines { CombinesRanges T.BITS O.at (map T.value elements.old) (map T.value elements.new) ranges op }
 {
     let size = T::BITS as usize * (HELD - 1);
     let mut left = ranges;
@@ -238,12 +238,12 @@ fn combine_blocks<T: BitStore, O: SliceOrder, const HELD: usize>(
     }
 }
 
-/// Combines at most as many bits as an element has.
+/// CombinesRanges at most as many bits as an element has.
 #[inline(always)]
 fn combine_few<T: BitStore, O: SliceOrder>(elements: &mut [T], ranges: Ranges, op: BitOp)
     requires ranges { HasRanges T.BITS (map T.value elements.old) ranges }
     requires few { ranges.len ≤ T.BITS }
-    ensures combines { Combines T.BITS O.at (map T.value elements.old) (map T.value elements.new) ranges op }
+    ensures combines { CombinesRanges T.BITS O.at (map T.value elements.old) (map T.value elements.new) ranges op }
 {
     if ranges.len == 0 {
         return;
@@ -267,7 +267,7 @@ fn combine_aside<T: BitStore, O: SliceOrder, const HELD: usize>(
     requires ranges { HasRanges T.BITS (map T.value elements.old) ranges }
     requires many { HELD ≤ length elements.old }
     requires held { ranges.from % T.BITS + ranges.len ≤ T.BITS * HELD }
-    ensures combines { Combines T.BITS O.at (map T.value elements.old) (map T.value elements.new) ranges op }
+    ensures combines { CombinesRanges T.BITS O.at (map T.value elements.old) (map T.value elements.new) ranges op }
 {
     // an array as large as a part of the memory takes no more bytes than there are
     T::fits_in_memory();
@@ -279,7 +279,7 @@ fn combine_aside<T: BitStore, O: SliceOrder, const HELD: usize>(
     }
 }
 
-/// Combines ranges, of which the elements that are read are held aside in another memory. Conditions: they are no more
+/// CombinesRanges ranges, of which the elements that are read are held aside in another memory. Conditions: they are no more
 /// than it has, and it has no more than the memory.
 #[inline(always)]
 fn combine_held<T: BitStore, O: SliceOrder>(
@@ -291,7 +291,7 @@ fn combine_held<T: BitStore, O: SliceOrder>(
     requires ranges { HasRanges T.BITS (map T.value elements.old) ranges }
     requires many { length held.old ≤ length elements.old }
     requires held { ranges.from % T.BITS + ranges.len ≤ T.BITS * length held.old }
-    ensures combines { Combines T.BITS O.at (map T.value elements.old) (map T.value elements.new) ranges op }
+    ensures combines { CombinesRanges T.BITS O.at (map T.value elements.old) (map T.value elements.new) ranges op }
 {
     let bits = T::BITS as usize;
     let Ranges { from, to, len } = ranges;

@@ -40,8 +40,8 @@ module _ {E C : Type 0} {access : Access C E} {old : C} where
 
   -- ---- loads and stores
 
-  pub costs-most : {new : C} {l s m n : ℕ} → Costs access old new l s → l ≤ m → n ≡ s → CostsAtMost access old new m n
-  costs-most cost few sum =
+  pub costs-within : {new : C} {l s m n : ℕ} → Costs access old new l s → l ≤ m → s ≤ n → CostsAtMost access old new m n
+  costs-within cost few stored =
       let loads = cost.loads in
       let stores = cost.stores in
       record { borrow = cost.borrow; loads = omega arith; stores = omega arith }
@@ -52,7 +52,7 @@ module _ {E C : Type 0} {access : Access C E} {old : C} where
       let stores = first.stores in
       record { borrow = second.borrow ∙ first.borrow; loads = omega arith; stores = omega arith }
 
-  pub costs-both : {mid new : C} {l s k t m n : ℕ} → Costs access old mid l s → CostsAtMost access mid new k t → l + k ≤ m → n ≡ s + t → CostsAtMost access old new m n
+  pub costs-both : {mid new : C} {l s k t m n : ℕ} → Costs access old mid l s → CostsAtMost access mid new k t → l + k ≤ m → s + t ≤ n → CostsAtMost access old new m n
   costs-both first second loaded stored =
       let loads = first.loads in
       let stores = first.stores in

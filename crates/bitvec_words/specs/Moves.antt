@@ -75,11 +75,11 @@ CopiesSome later b at old new first source skip count k =
     CopiesElements b at old new old (first + moved) (source + moved) skip k
 
 -- each of two windows holds the bits that the other one held, and every bit outside them is as before
-pub record Swaps (b : ℕ) (at : ℕ → ℕ → ℕ) (xs new_xs ys new_ys : List ℕ) (left right : Window) : Type 0 where
+pub record SwapsWindows (b : ℕ) (at : ℕ → ℕ → ℕ) (xs new_xs ys new_ys : List ℕ) (left right : Window) : Type 0 where
   pub writes : Copies b at xs new_xs left ys right
   pub right_writes : Copies b at ys new_ys right xs left
 
 -- the same of whole elements and the bits from the index `skip` of the element `source` on, where `waiting` is to be that element, and `last` the last one
 abbrev pub SwapsElements : ℕ → (ℕ → ℕ → ℕ) → List ℕ → List ℕ → List ℕ → List ℕ → ℕ → ℕ → ℕ → ℕ → ℕ → ℕ → Type 0
 SwapsElements b at xs new_xs ys new_ys first source skip count waiting last =
-    Swaps b at xs new_xs (slice_set ys source waiting) (slice_set new_ys (source + count) last) (elements_window b first count) (elements_window_from b source skip count)
+    SwapsWindows b at xs new_xs (slice_set ys source waiting) (slice_set new_ys (source + count) last) (elements_window b first count) (elements_window_from b source skip count)

@@ -68,13 +68,6 @@ same-whole b at p v w hv hw =
 
 -- ---- the differing bits behind a mask
 
-same_bit : (c d : ℕ) → c < 2 → d < 2 → (c == 1) ≡ (d == 1) → c ≡ d
-same_bit c d hc hd e = grind (arith, nat_tests)
-
--- the bit at an index of a part
-part_bit : (b : ℕ) (at : ℕ → ℕ → ℕ) (v from to k : ℕ) (d : Bool) → to ≤ b → from + k < to → slice_index_or (slice_range (element_bits b at v) from to) k d ≡ (bit_at v (at b (from + k)) == 1)
-part_bit b at v from to k d bound below = grind (arith, places, length-element_bits, get-element_bits)
-
 -- where none is left, the parts are the same
 parts_same : (b : ℕ) (at : ℕ → ℕ → ℕ) → Permutes b (at b) → (v w from to : ℕ) → from ≤ to → to ≤ b → bit_and (bit_xor v w) (mask_of (at b) from to) ≡ 0 → slice_range (element_bits b at v) from to ≡ slice_range (element_bits b at w) from to
 parts_same b at p v w from to order bound none =

@@ -44,7 +44,7 @@ pub fn load_element<O: WordOrder, C: CellsRead>(cells: &mut C, window: Window) -
     load_element_after::<O, C>(cells, window, first)
 }
 
-/// A word of a window whose first element was loaded before, and isn't loaded again.
+/// [`load_element`] of a window whose first element was loaded before, and isn't loaded again.
 pub fn load_element_after<O: WordOrder, C: CellsRead>(
     cells: &mut C,
     window: Window,

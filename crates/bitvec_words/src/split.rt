@@ -17,7 +17,6 @@ pub(crate) fn split_head<T: BitStore>(window: Window) -> (Part, Window)
     requires end { window.start + window.len < 2 ^ 64 }
     ensures split { Split T.BITS (part_window T.BITS result.0) result.1 window }
     ensures part { IsPart T.BITS result.0 }
-    ensures one { result.1.len ≡ 0 → touched_count T.BITS window.start window.len ≡ 1 }
     ensures touched { touched_count T.BITS window.start window.len
         ≡ 1 + touched_count T.BITS result.1.start result.1.len }
     ensures is_first { result.0 ≡ first_part_of T.BITS window }

@@ -1,5 +1,4 @@
-//! Fields: up to 64 bits of a window as the first bits of a word, and bits of one element at other indices of
-//! another.
+//! Up to 64 bits of a window as the first bits of a word, and bits of one element at other indices of another.
 ghost use Rattle.std.specs.Prelude.{◌≡◌, ◌+◌, ◌≤◌, false, replicate, slice_range, take};
 ghost use Rattle.bitvec_base.specs.Memory.{HasWindow, Writes, element_bits, list_in};
 ghost use Rattle.bitvec_base.specs.Window.{write_at};

@@ -78,3 +78,21 @@ returns-then-stops-clause-right g c =
     let acted = rw c.part-here.ensures at c.act_on_span-last.ensures.right in
     let fits = span-fits _ _ _ _ c.loop-step-test.true (spans-fit _ _ _ c.spans_in-spans.ensures) in
     record { numbers = acted.numbers ∙ before.numbers; borrow = acted.borrow ∙ before.borrow; loads = omega arith; stores = acted.stores ∙ before.stores }
+
+pub overflow_mul-passed : goal.overflow_mul-passed
+overflow_mul-passed g c =
+    let fits = spans-fit _ _ _ c.spans_in-spans.ensures in
+    let most = first-word (c.spans_in-spans.result * c.span-span.result) g.met.C.Elem.BitStore.width_law c.requires fits in
+    record { fits = omega arith }
+
+pub overflow_sub-stretch : goal.overflow_sub-stretch
+overflow_sub-stretch g c = spans-fit _ _ _ c.spans_in-spans.ensures
+
+pub returns-clause-right : goal.returns-clause-right
+returns-clause-right g c =
+    let before = c.loop-step.invariant.right in
+    let all : c.loop-step.step ≡ c.spans_in-spans.result = omega arith in
+    let passed = rw all at before.loads in
+    let acted = rw c.part-rest.ensures at c.act_on_stretch.ensures.right in
+    let fits = spans-fit _ _ _ c.spans_in-spans.ensures in
+    record { numbers = acted.numbers ∙ before.numbers; borrow = acted.borrow ∙ before.borrow; loads = omega arith; stores = acted.stores ∙ before.stores }

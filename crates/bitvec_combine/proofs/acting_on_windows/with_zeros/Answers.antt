@@ -1,13 +1,14 @@
 use Rattle.std.proofs.Common.{◌≡◌, ◌+◌, arith, sym}
 use Rattle.bitvec_base.specs.MemoryLaws.{length-element_bits}
 use Rattle.bitvec_base.specs.PartLaws.{element-none, length-part}
-use Rattle.bitvec_combine.specs.ActLaws.{padded-full, padded-part}
+use Rattle.bitvec_combine.specs.ActLaws.{padded-part}
+use Rattle.bitvec_words.specs.WordLaws.{padded-all}
 use Rattle.bitvec_combine.proofs.acting_on_windows.with_zeros.Goals as goal
 
 pub returns-then-len : goal.returns-then-len
 returns-then-len g c =
     let all : c.args.part.from + c.args.len ≡ c.args.part.to = omega arith in
-    rw all (sym (padded-full _ _ (length-part _ _ _ _ _ c.requires.inside)))
+    rw all (sym (padded-all _ _ (length-part _ _ _ _ _ c.requires.inside)))
 
 pub returns : goal.returns
 returns g c =

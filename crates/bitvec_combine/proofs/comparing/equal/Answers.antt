@@ -1,6 +1,6 @@
 use Rattle.std.proofs.Common.{arith}
 use Rattle.bitvec_combine.specs.DifferLaws.{equal_enough, equal_enough_right}
-use Rattle.bitvec_combine.proofs.CostLemmas.{reads-most}
+use Rattle.bitvec_words.proofs.CostLemmas.{reads-most}
 use Rattle.bitvec_combine.proofs.comparing.equal.Goals as goal
 
 pub returns-then-window-bits-clause-reads : goal.returns-then-window-bits-clause-reads

@@ -3,7 +3,7 @@ use Rattle.bitvec_store.specs.WidthLaws.{width_some}
 use Rattle.bitvec_cells.specs.Cost.{read_loads}
 use Rattle.bitvec_cells.specs.CostLaws.{touched_read}
 use Rattle.bitvec_engine.proofs.CompareLemmas.{cost-equal, cost-same}
-use Rattle.bitvec_combine.proofs.CostLemmas.{reads-most}
+use Rattle.bitvec_words.proofs.CostLemmas.{reads-most}
 use Rattle.bitvec_engine.proofs.by_elements.elements_eq.Goals as goal
 
 pub returns-then-has_one_phase-clause-reads : goal.returns-then-has_one_phase-clause-reads

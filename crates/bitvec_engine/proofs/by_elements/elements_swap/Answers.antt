@@ -2,7 +2,7 @@ use Rattle.std.proofs.Common.{ap, arith, false}
 use Rattle.bitvec_store.specs.WidthLaws.{width_some}
 use Rattle.bitvec_cells.specs.Cost.{read_loads, write_stores}
 use Rattle.bitvec_cells.specs.CostLaws.{read_enough, store_enough, touched_read, touched_stored, write_enough}
-use Rattle.bitvec_combine.proofs.CostLemmas.{costs-within}
+use Rattle.bitvec_words.proofs.CostLemmas.{costs-within}
 use Rattle.bitvec_engine.proofs.by_elements.elements_swap.Goals as goal
 
 pub returns-then-left_window-bits-clause-cost : goal.returns-then-left_window-bits-clause-cost

@@ -1,9 +1,9 @@
 use Rattle.std.proofs.Common.{arith, rules, refl}
 use Rattle.bitvec_store.specs.WidthLaws.{width_some}
-use Rattle.bitvec_move.proofs.SwapLaws.{Swaps-joined, beside-tail}
+use Rattle.bitvec_move.proofs.SwapLaws.{SwapsWindows-joined, beside-tail}
 use Rattle.bitvec_words.specs.TouchedLaws.{touched-full, touched-more}
 use Rattle.bitvec_words.specs.MovedPlaceLaws.{tail-inside, tail-part, whole-span}
-use Rattle.bitvec_move.proofs.MoveLemmas.{Swaps-same}
+use Rattle.bitvec_move.proofs.MoveLemmas.{SwapsWindows-same}
 use Rattle.std.proofs.lemmas.Nat.{div-add-mod'}
 use Rattle.bitvec_move.proofs.swapping_equal.swap_aligned.Goals as goal
 
@@ -38,7 +38,7 @@ returns-clause-swaps g c =
     let b = g.C.Elem.BitStore.BITS in
     let whole = rw (c.whole_elements-first.ensures, c.width-bits.ensures.is) at c.swap_whole.ensures.swaps in
     let part = rw (c.tail_part-tail.ensures, c.whole_elements-first.ensures, c.width-bits.ensures.is) at c.swap_part.ensures.swaps in
-    Swaps-joined _ _ _ _ _ _ _ _ _ _ _ _ _ _ c.requires.span.window c.requires.span.beside
+    SwapsWindows-joined _ _ _ _ _ _ _ _ _ _ _ _ _ _ c.requires.span.window c.requires.span.beside
     (beside-tail b c.args.left_window c.args.left_window.len c.requires.edge refl)
     (beside-tail b c.args.right_window c.args.left_window.len c.requires.right_edge c.requires.span.lengths)
     whole part
@@ -64,4 +64,4 @@ returns-then-tail-eq0-clause-swaps g c =
     let place = div-add-mod' c.args.left_window.start b in
     let right_place = div-add-mod' c.args.right_window.start b in
     let parts = div-add-mod' c.args.left_window.len b in
-    Swaps-same b _ _ _ _ _ _ _ c.args.left_window c.args.right_window (omega arith) (omega arith) (omega arith) (omega arith) (rw (c.whole_elements-first.ensures, c.width-bits.ensures.is) at c.swap_whole.ensures.swaps)
+    SwapsWindows-same b _ _ _ _ _ _ _ c.args.left_window c.args.right_window (omega arith) (omega arith) (omega arith) (omega arith) (rw (c.whole_elements-first.ensures, c.width-bits.ensures.is) at c.swap_whole.ensures.swaps)

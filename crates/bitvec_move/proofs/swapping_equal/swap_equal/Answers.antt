@@ -1,7 +1,7 @@
 use Rattle.std.proofs.Common.{◌≡◌, ◌≢◌, ◌-◌, ◌%◌, min, arith, rules, ◌∙◌, ap, refl}
 use Rattle.bitvec_store.specs.WidthLaws.{width_some}
 use Rattle.bitvec_cells.specs.Cost.{touched_count}
-use Rattle.bitvec_move.proofs.SwapLaws.{Swaps-joined, beside-head}
+use Rattle.bitvec_move.proofs.SwapLaws.{SwapsWindows-joined, beside-head}
 use Rattle.bitvec_words.specs.TouchedLaws.{touched-head, touched-rest}
 use Rattle.bitvec_words.specs.MovedPlaceLaws.{behind-edge, head-element, head-part}
 use Rattle.bitvec_move.proofs.MoveLemmas.{after-span}
@@ -48,7 +48,7 @@ returns-clause-swaps g c =
     let some = width_some _ g.met.C.Elem.BitStore.width_law in
     let first = rw (c.head_of-passed.ensures.part, c.width-bits.ensures.is) at c.swap_part.ensures.swaps in
     let rest = rw (c.after-rest.ensures, c.after-behind.ensures) at c.swap_aligned-2.ensures.swaps in
-    Swaps-joined _ _ _ _ _ _ _ _ _ _ _ _ _ _ c.requires.span.window c.requires.span.beside
+    SwapsWindows-joined _ _ _ _ _ _ _ _ _ _ _ _ _ _ c.requires.span.window c.requires.span.beside
     (beside-head b c.args.left_window c.args.left_window c.head_of-passed.result.1 some c.requires.some c.head_of-passed.ensures.long refl refl)
     (beside-head b c.args.left_window c.args.right_window c.head_of-passed.result.1 some c.requires.some c.head_of-passed.ensures.long c.requires.span.lengths c.requires.phases)
     first rest

@@ -5,11 +5,11 @@ use Rattle.std.proofs.lemmas.Nat.{div-add-mod', mod_below}
 use Rattle.bitvec_store.specs.WidthLaws.{width_some}
 use Rattle.bitvec_base.specs.WritesLaws.{HasWindow-kept}
 use Rattle.bitvec_move.proofs.CostSums.{Costs-stored, Costs-sum}
-use Rattle.bitvec_move.proofs.SwapLaws.{Swaps-joined, beside-after, beside-tail}
+use Rattle.bitvec_move.proofs.SwapLaws.{SwapsWindows-joined, beside-after, beside-tail}
 use Rattle.bitvec_words.specs.TouchedLaws.{touched-first, touched-from_full, touched-from_more, touched-full, touched-more}
 use Rattle.bitvec_move.proofs.WaitingLaws.{HasWindow-set, behind-element}
 use Rattle.bitvec_words.specs.MovedPlaceLaws.{from-inside, from-word, tail-span, whole-span_from, whole-window_from}
-use Rattle.bitvec_move.proofs.MoveLemmas.{Swaps-same, place-element}
+use Rattle.bitvec_move.proofs.MoveLemmas.{SwapsWindows-same, place-element}
 use Rattle.bitvec_words.specs.WholeLaws.{whole_fits, window-end}
 use Rattle.bitvec_move.proofs.swapping_shifted.swap_rest.Goals as goal
 
@@ -72,7 +72,7 @@ returns-clause-swaps g c =
     let whole = rw (c.of-stretch.ensures, c.width-bits.ensures.is) at c.swap_across-last.ensures.swaps in
     let part = rw (c.tail_part-tail.ensures, c.after-behind.ensures, c.of-stretch.ensures, c.width-bits.ensures.is, place) at c.swap_waiting-end.ensures.swaps in
     rw (c.store-2.ensures.numbers, c.after-behind.ensures, c.of-stretch.ensures, c.width-bits.ensures.is)
-    (Swaps-joined _ _ _ _ _ _ _ _ _ _ _ _ _ _ span.window (HasWindow-set _ _ _ _ _ span.beside)
+    (SwapsWindows-joined _ _ _ _ _ _ _ _ _ _ _ _ _ _ span.window (HasWindow-set _ _ _ _ _ span.beside)
     (beside-tail b c.args.left_window c.args.left_window.len c.requires.skipped.edge refl)
     (beside-after b c.args.right_window (c.args.left_window.len / b) fits)
     whole part)
@@ -105,7 +105,7 @@ returns-then-tail-eq0-clause-swaps g c =
     let right_place = div-add-mod' c.args.right_window.start b in
     let parts = div-add-mod' c.args.left_window.len b in
     rw (c.store.ensures.numbers, c.of-stretch.ensures, c.width-bits.ensures.is)
-    (Swaps-same b _ _ _ _ _ _ _ c.args.left_window c.args.right_window (omega arith) (omega arith) (omega arith) (omega arith)
+    (SwapsWindows-same b _ _ _ _ _ _ _ c.args.left_window c.args.right_window (omega arith) (omega arith) (omega arith) (omega arith)
     (rw (c.of-stretch.ensures, c.width-bits.ensures.is) at c.swap_across-last.ensures.swaps))
 
 pub store-requires-2 : goal.store-requires-2

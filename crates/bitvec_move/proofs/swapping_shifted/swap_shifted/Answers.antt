@@ -4,7 +4,7 @@ use Rattle.std.proofs.lemmas.Nat.{mod_below}
 use Rattle.bitvec_store.specs.WidthLaws.{width_some}
 use Rattle.bitvec_cells.specs.Cost.{touched_count}
 use Rattle.bitvec_move.proofs.CostSums.{Costs-around, Costs-sum, Costs-waiting}
-use Rattle.bitvec_move.proofs.SwapLaws.{Swaps-joined, beside-head, beside-parted}
+use Rattle.bitvec_move.proofs.SwapLaws.{SwapsWindows-joined, beside-head, beside-parted}
 use Rattle.bitvec_words.specs.TouchedLaws.{apart_edge, inside_element, touched-first, touched-head, touched-inside, touched-rest}
 use Rattle.bitvec_move.proofs.WithinLaws.{part-first}
 use Rattle.bitvec_words.specs.MovedPlaceLaws.{behind-edge, head-element, head-part}
@@ -60,7 +60,7 @@ returns-clause-swaps g c =
     let met : c.args.right_window.len - (c.args.right_window.len - c.head_of-passed.result.1) ≡ c.head_of-passed.result.1 = omega arith in
     let first = rw (c.head_of-passed.ensures.part, c.until-met.ensures, c.load-waiting.ensures.numbers, c.load-waiting.ensures.value, c.width-bits.ensures.is, set-get_or, met, same) at c.swap_waiting-last.ensures.swaps in
     let rest = rw (c.after-rest.ensures, c.after-behind.ensures) at c.swap_rest.ensures.swaps in
-    Swaps-joined _ _ _ _ _ _ _ _ _ _ _ _ _ _ c.requires.span.window c.requires.span.beside
+    SwapsWindows-joined _ _ _ _ _ _ _ _ _ _ _ _ _ _ c.requires.span.window c.requires.span.beside
     (beside-head b c.args.left_window c.args.left_window c.head_of-passed.result.1 some c.requires.some c.head_of-passed.ensures.long refl refl)
     (rw met at (beside-parted c.args.right_window c.head_of-passed.result.1 fits))
     first rest

@@ -1,5 +1,6 @@
 use Rattle.std.proofs.Common.{arith, refl, sym, ◌∙◌, ap, Bool, List, count_by}
 use Rattle.bitvec_cells.specs.WalkLaws.{touched-none}
+use Rattle.bitvec_words.specs.TouchedLaws.{touched-empty}
 use Rattle.bitvec_words.specs.WholeLaws.{list-empty, window-end}
 use Rattle.bitvec_words.proofs.CostLemmas.{reads-is, reads-sum}
 use Rattle.bitvec_words.proofs.CountLemmas.{count-few}
@@ -24,9 +25,10 @@ count_part-ones-requires g c = HasPart-is c.split_head.ensures.part (HasWindow-f
 pub returns-then-rest-eq0 : goal.returns-then-rest-eq0
 returns-then-rest-eq0 g c =
     let split = c.split_head.ensures.split in
+    let nothing = touched-empty g.C.Elem.BitStore.BITS c.split_head.result.1.start _ c.if-rest-eq0.true in
     record {
       value = c.count_part-ones.ensures.value ∙ ap (λ (l : List Bool). count_by (λ (bit : Bool). bit) l) (list-all split c.if-rest-eq0.true g.O.BitOrder.at _);
-      reads = reads-is c.count_part-ones.ensures.reads (c.split_head.ensures.one c.if-rest-eq0.true);
+      reads = reads-is c.count_part-ones.ensures.reads (omega (arith, c.split_head.ensures.touched));
     }
 
 pub count_aligned-requires-2 : goal.count_aligned-requires-2

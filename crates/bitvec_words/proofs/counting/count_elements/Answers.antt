@@ -1,4 +1,6 @@
-use Rattle.std.proofs.Common.{◌+◌, arith, rules, sym, ap, Bool, List, count_by}
+use Rattle.bitvec_words.proofs.WordScanLemmas.{elements-bound}
+use Rattle.bitvec_words.proofs.PlaceLemmas.{element-inside}
+use Rattle.std.proofs.Common.{◌≡◌, ◌+◌, arith, rules, sym, ap, Bool, List, count_by}
 use Rattle.std.proofs.Math.Nat.{mul-le-mul_left}
 use Rattle.bitvec_store.specs.WidthLaws.{width_some}
 use Rattle.bitvec_words.specs.Elements.{elements_window}
@@ -36,3 +38,16 @@ loop-step-preserved g c =
       ones = count-element b g.O.BitOrder.at (g.met.O.BitOrder.permutes _ width) _ _ _ _ _ _ _ (width_some _ width) c.requires c.loop-step-test.true value c.load.ensures.in_range inv.ones c.count_ones.ensures;
       reads = search rules;
     }
+
+pub overflow_add-first : goal.overflow_add-first
+overflow_add-first g c =
+    let bound = elements-bound _ (λ e i. i) _ c.args.first _ c.requires (width_some _ g.met.C.Elem.BitStore.width_law) in
+    record { fits = omega arith }
+
+pub load-requires : goal.load-requires
+load-requires g c = rw c.loop-step.invariant.reads.numbers (element-inside _ _ c.args.first c.args.count _ (width_some _ g.met.C.Elem.BitStore.width_law) c.requires c.loop-step-test.true)
+
+pub returns-clause-value : goal.returns-clause-value
+returns-clause-value g c =
+    let all : c.loop-step.step ≡ c.args.count = omega arith in
+    rw all at c.loop-step.invariant.ones

@@ -72,3 +72,55 @@ returns g c =
       value = count-left parts g.O.BitOrder.at (g.met.O.BitOrder.permutes _ width) _ _ (width_some b width) ones left.value;
       reads = reads-sum (reads-sum blocks.reads words.reads (fours b c.args.first c.args.count width c.requires)) left.reads (let within = parts.within in omega arith);
     }
+
+pub overflow_mul-block : goal.overflow_mul-block
+overflow_mul-block g c = omega arith
+
+pub overflow_mul-step : goal.overflow_mul-step
+overflow_mul-step g c =
+    let here = four-block _ c.args.first c.args.count g.met.C.Elem.BitStore.width_law c.requires _ (rw c.BITS-bits.ensures at c.loop-step-test.true) in
+    let few = here.upto.few in
+    let within = here.upto.within in
+    record { fits = rw c.BITS-bits.ensures (omega arith) }
+
+pub overflow_add-first : goal.overflow_add-first
+overflow_add-first g c =
+    let here = four-block _ c.args.first c.args.count g.met.C.Elem.BitStore.width_law c.requires _ (rw c.BITS-bits.ensures at c.loop-step-test.true) in
+    let few = here.upto.few in
+    let within = here.upto.within in
+    record { fits = rw c.BITS-bits.ensures (omega arith) }
+
+pub overflow_mul-left : goal.overflow_mul-left
+overflow_mul-left g c =
+    let parts = parted-words _ c.args.first c.args.count g.met.C.Elem.BitStore.width_law c.requires in
+    let sum = fours _ c.args.first c.args.count g.met.C.Elem.BitStore.width_law c.requires in
+    let few = parts.few in
+    let within = parts.within in
+    record { fits = rw c.BITS-bits.ensures (omega arith) }
+
+pub overflow_add-first-2 : goal.overflow_add-first-2
+overflow_add-first-2 g c =
+    let parts = parted-words _ c.args.first c.args.count g.met.C.Elem.BitStore.width_law c.requires in
+    let sum = fours _ c.args.first c.args.count g.met.C.Elem.BitStore.width_law c.requires in
+    let few = parts.few in
+    let within = parts.within in
+    record { fits = rw c.BITS-bits.ensures (omega arith) }
+
+pub overflow_mul-passed : goal.overflow_mul-passed
+overflow_mul-passed g c =
+    let parts = parted-words _ c.args.first c.args.count g.met.C.Elem.BitStore.width_law c.requires in
+    let few = parts.few in
+    let within = parts.within in
+    record { fits = rw c.BITS-bits.ensures (omega arith) }
+
+pub overflow_add-first-3 : goal.overflow_add-first-3
+overflow_add-first-3 g c =
+    let parts = parted-words _ c.args.first c.args.count g.met.C.Elem.BitStore.width_law c.requires in
+    let few = parts.few in
+    let within = parts.within in
+    record { fits = rw c.BITS-bits.ensures (omega arith) }
+
+pub overflow_sub-count : goal.overflow_sub-count
+overflow_sub-count g c =
+    let within = (parted-words _ c.args.first c.args.count g.met.C.Elem.BitStore.width_law c.requires).within in
+    rw c.BITS-bits.ensures within

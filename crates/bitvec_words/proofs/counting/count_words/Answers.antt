@@ -28,3 +28,20 @@ loop-step-preserved g c =
     let inv = c.loop-step.invariant in
     let here = word-block _ c.args.first c.args.count c.loop-step.step g.met.C.Elem.BitStore.width_law c.requires.window c.loop-step-test.true in
     record { ones = count-block here _ _ inv.ones (word-ones c.load_word.result _ (word-listed _ g.met.C.Elem.BitStore.width_law c.requires.narrow _ _ _ here.here (rw (c.BITS.ensures, inv.reads.numbers) at c.load_word.ensures.digits)) (omega arith)); reads = search rules }
+
+pub overflow_mul-step : goal.overflow_mul-step
+overflow_mul-step g c =
+    let here = word-block _ c.args.first c.args.count c.loop-step.step g.met.C.Elem.BitStore.width_law c.requires.window c.loop-step-test.true in
+    let few = here.upto.few in
+    let within = here.upto.within in
+    record { fits = rw c.BITS.ensures (omega arith) }
+
+pub overflow_add-first : goal.overflow_add-first
+overflow_add-first g c =
+    let here = word-block _ c.args.first c.args.count c.loop-step.step g.met.C.Elem.BitStore.width_law c.requires.window c.loop-step-test.true in
+    let few = here.upto.few in
+    let within = here.upto.within in
+    record { fits = rw c.BITS.ensures (omega arith) }
+
+pub nonzero_div-elements : goal.nonzero_div-elements
+nonzero_div-elements g c = rw c.BITS.ensures (omega (arith, width_some _ g.met.C.Elem.BitStore.width_law))

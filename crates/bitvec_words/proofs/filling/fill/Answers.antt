@@ -2,9 +2,9 @@ use Rattle.std.proofs.Common.{arith, refl, sym}
 use Rattle.bitvec_base.specs.WritesLaws.{HasWindow-kept, Writes-empty, Writes-is}
 use Rattle.bitvec_cells.specs.WalkLaws.{touched-none}
 use Rattle.bitvec_words.specs.FillingLaws.{fill_loads-some, replicate-is}
-use Rattle.bitvec_words.specs.TouchedLaws.{part_loads-most}
+use Rattle.bitvec_words.specs.TouchedLaws.{part_loads-most, touched-empty}
 use Rattle.bitvec_words.specs.WholeLaws.{window-end}
-use Rattle.bitvec_words.proofs.CostLemmas.{costs-both, costs-most}
+use Rattle.bitvec_words.proofs.CostLemmas.{costs-both, costs-within}
 use Rattle.bitvec_words.proofs.SplitLemmas.{HasPart-is, HasWindow-behind, HasWindow-front, Writes-all, Writes-filled_split}
 use Rattle.bitvec_words.proofs.filling.fill.Goals as goal
 
@@ -28,13 +28,14 @@ fill_part-requires g c = HasPart-is c.split_head.ensures.part (HasWindow-front c
 pub returns-then-rest-eq0 : goal.returns-then-rest-eq0
 returns-then-rest-eq0 g c =
     let split = c.split_head.ensures.split in
-    let one = c.split_head.ensures.one c.if-rest-eq0.true in
+    let nothing = touched-empty g.C.Elem.BitStore.BITS c.split_head.result.1.start _ c.if-rest-eq0.true in
+    let touched = c.split_head.ensures.touched in
     let few = part_loads-most g.C.Elem.BitStore.BITS c.split_head.result.0 in
     let edges = fill_loads-some c.args.window.len c.if-window-eq0.false in
     let cost = c.fill_part.ensures.cost in
     record {
       writes = Writes-is _ _ _ _ _ _ _ (Writes-all split c.if-rest-eq0.true c.fill_part.ensures.writes) (replicate-is _ _ _ (omega arith));
-      cost = costs-most cost (omega arith) one;
+      cost = costs-within cost (omega arith) (omega arith);
       stores = omega arith;
       loads = omega arith;
     }

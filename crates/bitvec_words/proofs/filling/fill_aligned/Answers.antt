@@ -1,9 +1,10 @@
-use Rattle.std.proofs.Common.{arith, refl}
+use Rattle.std.proofs.Common.{arith}
+use Rattle.std.proofs.Math.Nat.{le_refl}
 use Rattle.bitvec_base.specs.WritesLaws.{HasWindow-kept, Writes-is}
 use Rattle.bitvec_words.specs.FillingLaws.{replicate-is}
 use Rattle.bitvec_words.specs.TouchedLaws.{part_loads-most}
 use Rattle.bitvec_words.specs.WholeLaws.{window-end}
-use Rattle.bitvec_words.proofs.CostLemmas.{costs-both, costs-most}
+use Rattle.bitvec_words.proofs.CostLemmas.{costs-both, costs-within}
 use Rattle.bitvec_words.proofs.SplitLemmas.{HasPart-is, HasWindow-behind, HasWindow-front, Writes-all, Writes-filled_split}
 use Rattle.bitvec_words.proofs.filling.fill_aligned.Goals as goal
 
@@ -19,7 +20,7 @@ returns-then-tail-eq0 g c =
     let cost = c.fill_whole.ensures.cost in
     record {
       writes = Writes-is _ _ _ _ _ _ _ (Writes-all split (omega arith) c.fill_whole.ensures.writes) (replicate-is _ _ _ (omega arith));
-      cost = costs-most cost (omega arith) (omega arith);
+      cost = costs-within cost (omega arith) (omega arith);
       stores = omega arith;
       loads = omega arith;
     }
@@ -37,7 +38,7 @@ returns g c =
     let more = c.fill_part.ensures.cost in
     record {
       writes = Writes-filled_split told.split g.O.BitOrder.at c.requires.window c.args.bit c.fill_whole.ensures.writes c.fill_part.ensures.writes;
-      cost = costs-both cost (costs-most more few refl) (omega arith) (omega arith);
+      cost = costs-both cost (costs-within more few (le_refl _)) (omega arith) (omega arith);
       stores = omega arith;
       loads = omega arith;
     }

@@ -1,6 +1,8 @@
-use Rattle.std.proofs.Common.{arith, refl, sym, ap, map, not}
+use Rattle.std.proofs.Common.{◌≡◌, arith, refl, sym, ap, map, not}
 use Rattle.bitvec_base.specs.WritesLaws.{HasWindow-kept, Writes-empty, Writes-is}
+use Rattle.bitvec_cells.specs.Cost.{touched_count}
 use Rattle.bitvec_cells.specs.WalkLaws.{touched-none}
+use Rattle.bitvec_words.specs.TouchedLaws.{touched-empty}
 use Rattle.bitvec_words.specs.WholeLaws.{list-empty, window-end}
 use Rattle.bitvec_words.proofs.CostLemmas.{costs-sum}
 use Rattle.bitvec_words.proofs.SplitLemmas.{HasPart-is, HasWindow-behind, HasWindow-front, Writes-flipped_all, Writes-flipped_split}
@@ -24,7 +26,8 @@ invert_part-requires g c = HasPart-is c.split_head.ensures.part (HasWindow-front
 pub returns-then-rest-eq0 : goal.returns-then-rest-eq0
 returns-then-rest-eq0 g c =
     let split = c.split_head.ensures.split in
-    let one = c.split_head.ensures.one c.if-rest-eq0.true in
+    let nothing = touched-empty g.C.Elem.BitStore.BITS c.split_head.result.1.start _ c.if-rest-eq0.true in
+    let one : touched_count g.C.Elem.BitStore.BITS c.args.window.start c.args.window.len ≡ 1 = omega (arith, c.split_head.ensures.touched) in
     record { writes = Writes-flipped_all split c.if-rest-eq0.true c.invert_part.ensures.writes; cost = rw one c.invert_part.ensures.cost }
 
 pub invert_aligned-requires-2 : goal.invert_aligned-requires-2

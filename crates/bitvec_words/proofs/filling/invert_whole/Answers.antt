@@ -1,3 +1,4 @@
+use Rattle.bitvec_words.proofs.WordScanLemmas.{elements-bound}
 use Rattle.std.proofs.Common.{rules, ◌≡◌, arith}
 use Rattle.bitvec_store.specs.WidthLaws.{width_some}
 use Rattle.bitvec_words.specs.FillingLaws.{Writes-flipped, Writes-none_flipped}
@@ -35,3 +36,13 @@ pub returns-clause-cost : goal.returns-clause-cost
 returns-clause-cost g c =
     let all : c.loop-step.step ≡ c.args.count = omega arith in
     rw all at c.loop-step.invariant.cost
+
+pub overflow_add-first : goal.overflow_add-first
+overflow_add-first g c =
+    let bound = elements-bound _ (λ e i. i) _ c.args.first _ c.requires (width_some _ g.met.C.Elem.BitStore.width_law) in
+    record { fits = omega arith }
+
+pub overflow_add-first-in-loop-step : goal.overflow_add-first-in-loop-step
+overflow_add-first-in-loop-step g c =
+    let bound = elements-bound _ (λ e i. i) _ c.args.first _ c.requires (width_some _ g.met.C.Elem.BitStore.width_law) in
+    record { fits = omega arith }

@@ -1,3 +1,4 @@
+use Rattle.bitvec_words.proofs.WordScanLemmas.{elements-bound}
 use Rattle.std.proofs.Common.{◌+◌, ◌∙◌, arith, rules}
 use Rattle.std.proofs.Math.Nat.{mul-le-mul_left}
 use Rattle.std.proofs.lemmas.List.{length-set}
@@ -31,3 +32,8 @@ loop-step-preserved g c =
       elements = rw c.store.ensures.numbers (length-set _ _ _ ∙ inv.elements);
       cost = search rules;
     }
+
+pub overflow_add-first : goal.overflow_add-first
+overflow_add-first g c =
+    let bound = elements-bound _ (λ e i. i) _ c.args.first _ c.requires (width_some _ g.met.C.Elem.BitStore.width_law) in
+    record { fits = omega arith }

@@ -1,8 +1,9 @@
 use Rattle.std.proofs.Common.{arith, ◌∙◌, ap}
 use Rattle.bitvec_base.specs.Lists.{first_place}
+use Rattle.bitvec_store.specs.WidthLaws.{width_some}
 use Rattle.bitvec_words.proofs.CostLemmas.{reads-four}
 use Rattle.bitvec_words.proofs.OrderedLemmas.{block-lacks, block-ordered}
-use Rattle.bitvec_words.proofs.WordScanLemmas.{block_pair, block_words, list-pair, pair-inside, words}
+use Rattle.bitvec_words.proofs.WordScanLemmas.{block_pair, block_words, elements-bound, list-pair, pair-inside, words}
 use Rattle.bitvec_words.proofs.scanning_words.first_in_block.Goals as goal
 
 pub load-one-requires : goal.load-one-requires
@@ -81,3 +82,38 @@ returns-then-one-lacking-eq0-clause-reads g c = reads-four c.load_elements-one.e
 
 pub returns-clause-reads : goal.returns-clause-reads
 returns-clause-reads g c = reads-four c.load_elements-one.ensures.reads c.load_elements-two.ensures.reads c.load_elements-three.ensures.reads c.load_elements-four.ensures.reads (block_words _ g.met.C.Elem.BitStore.width_law (rw c.BITS-bits.ensures at c.if-bits-gt-WORD_BITS.false))
+
+pub overflow_add-first : goal.overflow_add-first
+overflow_add-first g c =
+    let width = g.met.C.Elem.BitStore.width_law in
+    let bound = elements-bound _ (λ e i. i) _ c.args.first _ c.requires (width_some _ width) in
+    let two = block_pair _ width (rw c.BITS-bits.ensures at c.if-bits-gt-WORD_BITS.true) in
+    record { fits = omega arith }
+
+pub nonzero_div-elements : goal.nonzero_div-elements
+nonzero_div-elements g c = rw c.BITS-bits.ensures (omega (arith, width_some _ g.met.C.Elem.BitStore.width_law))
+
+pub overflow_add-first-2 : goal.overflow_add-first-2
+overflow_add-first-2 g c =
+    let few = (words _ c.args.first g.met.C.Elem.BitStore.width_law (rw c.BITS-bits.ensures at c.if-bits-gt-WORD_BITS.false) c.requires).few in
+    record { fits = rw c.BITS-bits.ensures (omega arith) }
+
+pub overflow_mul-elements : goal.overflow_mul-elements
+overflow_mul-elements g c =
+    let few = (words _ c.args.first g.met.C.Elem.BitStore.width_law (rw c.BITS-bits.ensures at c.if-bits-gt-WORD_BITS.false) c.requires).few in
+    record { fits = rw c.BITS-bits.ensures (omega arith) }
+
+pub overflow_add-first-3 : goal.overflow_add-first-3
+overflow_add-first-3 g c =
+    let few = (words _ c.args.first g.met.C.Elem.BitStore.width_law (rw c.BITS-bits.ensures at c.if-bits-gt-WORD_BITS.false) c.requires).few in
+    record { fits = rw c.BITS-bits.ensures (omega arith) }
+
+pub overflow_mul-elements-2 : goal.overflow_mul-elements-2
+overflow_mul-elements-2 g c =
+    let few = (words _ c.args.first g.met.C.Elem.BitStore.width_law (rw c.BITS-bits.ensures at c.if-bits-gt-WORD_BITS.false) c.requires).few in
+    record { fits = rw c.BITS-bits.ensures (omega arith) }
+
+pub overflow_add-first-4 : goal.overflow_add-first-4
+overflow_add-first-4 g c =
+    let few = (words _ c.args.first g.met.C.Elem.BitStore.width_law (rw c.BITS-bits.ensures at c.if-bits-gt-WORD_BITS.false) c.requires).few in
+    record { fits = rw c.BITS-bits.ensures (omega arith) }

@@ -84,3 +84,53 @@ returns g c =
       value = rw (← bits) (split-behind parts.split g.O.BitOrder.at c.requires c.args.want _ front.none rest.value);
       reads = reads-both (reads-exact front.reads) rest.reads (let few = parts.within in omega arith);
     })
+
+pub overflow_mul-step : goal.overflow_mul-step
+overflow_mul-step g c =
+    let here = block _ 256 c.args.first c.args.count c.loop-step.step g.met.C.Elem.BitStore.width_law c.requires (rw c.BITS.ensures at c.loop-step-test.true) in
+    let few = here.upto.few in
+    let within = here.upto.within in
+    record { fits = rw c.BITS.ensures (omega arith) }
+
+pub overflow_add-first : goal.overflow_add-first
+overflow_add-first g c =
+    let here = block _ 256 c.args.first c.args.count c.loop-step.step g.met.C.Elem.BitStore.width_law c.requires (rw c.BITS.ensures at c.loop-step-test.true) in
+    let few = here.upto.few in
+    let within = here.upto.within in
+    record { fits = rw c.BITS.ensures (omega arith) }
+
+pub overflow_mul-passed : goal.overflow_mul-passed
+overflow_mul-passed g c =
+    let parts = parted-blocks _ 256 c.args.first c.args.count g.met.C.Elem.BitStore.width_law c.requires in
+    let few = parts.few in
+    let within = parts.within in
+    record { fits = rw c.BITS.ensures (omega arith) }
+
+pub overflow_add-first-2 : goal.overflow_add-first-2
+overflow_add-first-2 g c =
+    let parts = parted-blocks _ 256 c.args.first c.args.count g.met.C.Elem.BitStore.width_law c.requires in
+    let few = parts.few in
+    let within = parts.within in
+    record { fits = rw c.BITS.ensures (omega arith) }
+
+pub overflow_sub-count : goal.overflow_sub-count
+overflow_sub-count g c = rw c.BITS.ensures (parted-blocks _ 256 c.args.first c.args.count g.met.C.Elem.BitStore.width_law c.requires).within
+
+pub overflow_mul-result : goal.overflow_mul-result
+overflow_mul-result g c =
+    let b = g.C.Elem.BitStore.BITS in
+    let inv = c.loop-step.invariant in
+    let here = block b 256 c.args.first c.args.count c.loop-step.step g.met.C.Elem.BitStore.width_law c.requires (rw c.BITS.ensures at c.loop-step-test.true) in
+    let few = first-block_few here g.O.BitOrder.at c.args.want inv.none 256 _ (block_whole b g.met.C.Elem.BitStore.width_law) (rw (c.BITS.ensures, inv.reads.numbers) at c.in-Some.ensures.value) in
+    omega arith
+
+pub overflow_mul-result-2 : goal.overflow_mul-result-2
+overflow_mul-result-2 g c =
+    let b = g.C.Elem.BitStore.BITS in
+    let parts = parted-blocks b 256 c.args.first c.args.count g.met.C.Elem.BitStore.width_law c.requires in
+    let bits = blocks-bits (c.args.count / (256 / b)) (256 / b) b 256 (block_whole b g.met.C.Elem.BitStore.width_law) in
+    let all : c.loop-step.step ≡ c.args.count / (256 / c.BITS.result) = omega arith in
+    let front = rw (all, c.BITS.ensures) at c.loop-step.invariant in
+    let rest = rw (c.BITS.ensures, front.reads.numbers) at c.in_ok-found.ensures in
+    let few = split-few parts.split g.O.BitOrder.at c.requires c.args.want _ front.none rest.value in
+    rw c.BITS.ensures (omega arith)

@@ -97,3 +97,53 @@ returns g c =
       value = rw (← bits) (split-behind parts.split g.O.BitOrder.at c.requires c.args.want _ front.none rest.value);
       reads = reads-both (reads-exact front.reads) rest.reads (let few = parts.within in omega arith);
     })
+
+pub overflow_mul-step : goal.overflow_mul-step
+overflow_mul-step g c =
+    let here = block _ 64 c.args.first c.args.count c.loop-step.step g.met.C.Elem.BitStore.width_law c.requires (rw c.BITS-bits.ensures at c.loop-step-test.true) in
+    let few = here.upto.few in
+    let within = here.upto.within in
+    record { fits = rw c.BITS-bits.ensures (omega arith) }
+
+pub overflow_add-first : goal.overflow_add-first
+overflow_add-first g c =
+    let here = block _ 64 c.args.first c.args.count c.loop-step.step g.met.C.Elem.BitStore.width_law c.requires (rw c.BITS-bits.ensures at c.loop-step-test.true) in
+    let few = here.upto.few in
+    let within = here.upto.within in
+    record { fits = rw c.BITS-bits.ensures (omega arith) }
+
+pub overflow_mul-passed : goal.overflow_mul-passed
+overflow_mul-passed g c =
+    let parts = parted-blocks _ 64 c.args.first c.args.count g.met.C.Elem.BitStore.width_law c.requires in
+    let few = parts.few in
+    let within = parts.within in
+    record { fits = rw c.BITS-bits.ensures (omega arith) }
+
+pub overflow_add-first-2 : goal.overflow_add-first-2
+overflow_add-first-2 g c =
+    let parts = parted-blocks _ 64 c.args.first c.args.count g.met.C.Elem.BitStore.width_law c.requires in
+    let few = parts.few in
+    let within = parts.within in
+    record { fits = rw c.BITS-bits.ensures (omega arith) }
+
+pub overflow_sub-count : goal.overflow_sub-count
+overflow_sub-count g c = rw c.BITS-bits.ensures (parted-blocks _ 64 c.args.first c.args.count g.met.C.Elem.BitStore.width_law c.requires).within
+
+pub overflow_mul-result : goal.overflow_mul-result
+overflow_mul-result g c =
+    let b = g.C.Elem.BitStore.BITS in
+    let inv = c.loop-step.invariant in
+    let here = block b 64 c.args.first c.args.count c.loop-step.step g.met.C.Elem.BitStore.width_law c.requires (rw c.BITS-bits.ensures at c.loop-step-test.true) in
+    let few = first-block_few here g.O.BitOrder.at c.args.want inv.none 64 _ (word_whole b g.met.C.Elem.BitStore.width_law (omega arith)) (sym c.in-Some.is ∙ c.first_in_whole.ensures ∙ ap (first_place c.args.want) (rw (c.BITS-bits.ensures, inv.reads.numbers) at c.load_elements-word.ensures.value)) in
+    omega arith
+
+pub overflow_mul-result-2 : goal.overflow_mul-result-2
+overflow_mul-result-2 g c =
+    let b = g.C.Elem.BitStore.BITS in
+    let parts = parted-blocks b 64 c.args.first c.args.count g.met.C.Elem.BitStore.width_law c.requires in
+    let bits = blocks-bits (c.args.count / (64 / b)) (64 / b) b 64 (word_whole b g.met.C.Elem.BitStore.width_law (omega arith)) in
+    let all : c.loop-step.step ≡ c.args.count / (64 / c.BITS-bits.result) = omega arith in
+    let front = rw (all, c.BITS-bits.ensures) at c.loop-step.invariant in
+    let rest = rw (c.BITS-bits.ensures, front.reads.numbers) at c.in_ok-found.ensures in
+    let few = split-few parts.split g.O.BitOrder.at c.requires c.args.want _ front.none rest.value in
+    rw c.BITS-bits.ensures (omega arith)

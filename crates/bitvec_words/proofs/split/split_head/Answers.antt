@@ -1,5 +1,4 @@
-use Rattle.bitvec_words.specs.TouchedLaws.{touched-empty}
-use Rattle.std.proofs.Common.{arith, refl, ℕ, ◌+◌, ◌∙◌, ap}
+use Rattle.std.proofs.Common.{arith, refl}
 use Rattle.bitvec_store.specs.WidthLaws.{width_some}
 use Rattle.bitvec_words.specs.WordLaws.{width-some}
 use Rattle.bitvec_words.proofs.SplitLemmas.{head-part, head-split, head-within, head-touched}
@@ -23,4 +22,4 @@ pub returns : goal.returns
 returns g c =
     let some = width_some _ g.met.T.BitStore.width_law in
     rw (c.after.ensures, c.len.ensures, c.first_part-head.ensures, c.BITS.ensures)
-    (record { split = head-split _ c.args.window some c.requires.some; one = λ none. head-touched _ c.args.window some c.requires.some ∙ ap (λ (n : ℕ). 1 + n) (touched-empty _ _ _ none); touched = head-touched _ c.args.window some c.requires.some; part = head-part _ c.args.window some c.requires.some; is_first = refl; is_behind = refl })
+    (record { split = head-split _ c.args.window some c.requires.some; touched = head-touched _ c.args.window some c.requires.some; part = head-part _ c.args.window some c.requires.some; is_first = refl; is_behind = refl })
