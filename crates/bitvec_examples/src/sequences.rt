@@ -9,7 +9,7 @@ type Words = BitVec<u64, Lsb0, Global>;
 
 /// Puts a bit before another one and takes it back: the bits are as they were.
 #[tactic(auto, using(bitvec::specs::Laws::reindexed))]
-pub fn put_and_take(bits: &mut Words, index: usize, bit: bool) -> Result<bool, AllocError>
+pub fn insert_and_remove(bits: &mut Words, index: usize, bit: bool) -> Result<bool, AllocError>
     requires { index ≤ (owned bits.old).window.len }
     ensures bits { (owned bits.new).bits ≡ (owned bits.old).bits }
     ensures value { IfOk result (λ taken. taken ≡ bit) }
@@ -59,7 +59,7 @@ fn are_put_and_taken(alloc: Global) -> Result<bool, AllocError> {
     let mut bits = Words::new_in(alloc);
     add_marked(&mut bits, 22)?;
     put_first(&mut bits, true)?;
-    let back = put_and_take(&mut bits, 4, true)?;
+    let back = insert_and_remove(&mut bits, 4, true)?;
     let taken = take_two_ways(&mut bits, 1, 2)?;
     Ok(back && !taken && bits.as_raw_slice() == [0b1101001].as_slice() && bits.len() == 7)
 }

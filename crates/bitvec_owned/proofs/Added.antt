@@ -86,23 +86,23 @@ held-all b first now list word was =
 
 -- what a view of a word's last bits shows, and one of its first bits
 module _ (at : ℕ → ℕ → ℕ) (word len : ℕ) (few : len ≤ 64) where
-  abbrev bits_of : List Bool
-  bits_of = element_bits 64 at word
+  abbrev word_bits : List Bool
+  word_bits = element_bits 64 at word
 
-  pub last-shown : (shown 64 at (λ word. word) (word ∷ []) (64 - len) len).bits ≡ drop (64 - len) bits_of
+  pub last-shown : (shown 64 at (λ word. word) (word ∷ []) (64 - len) len).bits ≡ drop (64 - len) word_bits
   unfolding window_of
   last-shown =
       let long = length-element_bits 64 at word in
       ap (λ (l : List Bool). slice_range l (64 - len) (64 - len + len)) (one 64 at (λ (word : ℕ). word) (omega arith) word)
-      ∙ range-to_end bits_of (64 - len) (64 - len + len) (omega arith)
+      ∙ range-to_end word_bits (64 - len) (64 - len + len) (omega arith)
 
-  pub first-shown : (shown 64 at (λ word. word) (word ∷ []) 0 len).bits ≡ take len bits_of
+  pub first-shown : (shown 64 at (λ word. word) (word ∷ []) 0 len).bits ≡ take len word_bits
   unfolding window_of
   first-shown =
       let end : 0 + len ≡ len = omega arith in
       ap (λ (l : List Bool). slice_range l 0 (0 + len)) (one 64 at (λ (word : ℕ). word) (omega arith) word)
-      ∙ ap (λ (e : ℕ). slice_range bits_of 0 e) end
-      ∙ between_from_start bits_of len
+      ∙ ap (λ (e : ℕ). slice_range word_bits 0 e) end
+      ∙ between_from_start word_bits len
 
 -- the lowest bits of a word, from either end
 pub highest-shown : (word len : ℕ) → len ≤ 64 → (shown 64 (λ b i. b - 1 - i) (λ word. word) (word ∷ []) (64 - len) len).bits ≡ segment_bits true len word

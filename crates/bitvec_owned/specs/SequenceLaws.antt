@@ -1,9 +1,8 @@
 -- Lists that grow at their end, and lists into which a value was put or from which some were taken: how long they are, each value, and what undoes what.
-use Rattle.std.specs.Prelude.{◌≡◌, ◌≢◌, ℕ, ◌+◌, ◌-◌, ◌<◌, ◌≤◌, List, ◌∷◌, ◌++◌, drop, length, slice_index_or, slice_set, take, suc, zero, refl, [], Option, Some, None}
+use Rattle.std.specs.Prelude.{◌≡◌, ◌≢◌, ℕ, ◌+◌, ◌-◌, ◌<◌, ◌≤◌, List, ◌∷◌, ◌++◌, drop, length, slice_index_or, slice_set, take, suc}
 use Rattle.std.specs.List.{insert, remove, remove_range, swap_remove}
-use Rattle.std.specs.Option.{option_to_list}
-use Rattle.std.proofs.Common.{◌∙◌, add-one, ap, arith, length-append, length-drop, length-take, sym}
-use Rattle.std.proofs.lemmas.List.{drop-append-le, drop-drop, drop_at, drop_more, get_or-drop, get_or-set_other, get_or-take, get_or_default, get_or_append_left, get_or-append-add, length-set, length-take-le, places, same_lists, take-append-drop, take-append-le, take_all, take_at}
+use Rattle.std.proofs.Common.{◌∙◌, add-one, ap, arith, sym}
+use Rattle.std.proofs.lemmas.List.{drop_at, drop_more, get_or-set_other, get_or-take, get_or_default, length-set, length-take-le, places, same_lists, take-append-drop, take-append-le, take_all, take_at}
 use Rattle.std.proofs.lemmas.Grind.{get_or-set_at}
 use Rattle.std.proofs.lemmas.List.Edits.{get_or-insert_above, get_or-insert_at, get_or-insert_below, get_or-remove_above, get_or-remove_below, length-insert, length-remove}
 

@@ -17,7 +17,7 @@ use Rattle.bitvec_slice.specs.Showing.{ShowsElements, shows_elements}
 use Rattle.bitvec_store.specs.declared.store.BitStore.{Ghosts as Store}
 use Rattle.bitvec_owned.specs.Copies.{Holds}
 use Rattle.bitvec_owned.specs.Lending.{with_elements}
-use Rattle.bitvec_owned.specs.Owned.{bit_capacity, owned}
+use Rattle.bitvec_owned.specs.Owned.{bit_capacity, owned, usable_bits}
 use Rattle.bitvec_owned.specs.Writes.{WritesOwned}
 use Rattle.bitvec_owned.specs.declared.bit_vec.BitVec.{BitVec}
 
@@ -28,13 +28,13 @@ same_length f xs ys same = let first = length-map xs f in let second = length-ma
 pub refilled : {X : Type 0} (xs old : List X) (n : ℕ) → length xs ≡ n → take n (xs ++ drop (length xs) old) ≡ xs
 refilled xs old n long = take_at xs (drop (length xs) old) n long
 
--- the elements that bits touch have room for them
-pub room_for : (b head len n capacity most : ℕ) → 0 < b → n ≡ div_ceil (head + len) b → n ≤ capacity → b * n ≤ most → len ≤ b * min capacity (most / b) - head
-room_for b head len n capacity most some touched few bounded =
-    let rounded = div_ceil_times (head + len) b some in
-    let fits : n ≤ most / b = (le-div_iff_mul-le some).1 (omega arith) in
-    let product = mul-le-mul_left {m = n} {n = min capacity (most / b)} b (omega arith) in
-    let all : b * div_ceil (head + len) b ≤ b * min capacity (most / b) = rw (← touched) product in
+-- elements for which there is memory hold the bits that touch them
+pub held-usable : (b end n capacity : ℕ) → 0 < b → n ≡ div_ceil end b → n ≤ capacity → b * n ≤ max_bits → end ≤ usable_bits b capacity
+held-usable b end n capacity some touched room bounded =
+    let rounded = div_ceil_times end b some in
+    let few : n ≤ max_bits / b = (le-div_iff_mul-le some).1 (omega arith) in
+    let product = mul-le-mul_left {m = n} {n = min capacity (max_bits / b)} b (omega arith) in
+    let all : b * div_ceil end b ≤ b * min capacity (max_bits / b) = rw (← touched) product in
     omega arith
 
 module _ {T : Type 0} (b : ℕ) (at : ℕ → ℕ → ℕ) (value : T → ℕ) (old new : List T) (start len : ℕ) (list : List Bool) (inside : start + len ≤ b * length old)
@@ -89,7 +89,9 @@ module _ {T O A : Type 0} {t : Store T} {o : Order O} (some : 0 < t.BITS) (v : B
 
   -- it has memory for its bits
   pub owned-room : (owned v).window.len ≤ bit_capacity v
-  owned-room = room_for t.BITS v.head v.len (vec_len v.elements) (vec_capacity v.elements) max_bits some v.touched v.elements.ok.1 v.bounded
+  owned-room =
+      let held = held-usable t.BITS (v.head + v.len) (vec_len v.elements) (vec_capacity v.elements) some v.touched v.elements.ok.1 v.bounded in
+      omega arith
 
   pub sequence_elements : ShowsElements t.BITS o.at t.value (owned v)
   sequence_elements =
