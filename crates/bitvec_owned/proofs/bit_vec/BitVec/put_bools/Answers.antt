@@ -25,8 +25,8 @@ extend_from_word-requires-clause-room g c =
     let more = inv.capacity in
     omega arith
 
-pub extend_from_word-2-requires-clause-room : goal.extend_from_word-2-requires-clause-room
-extend_from_word-2-requires-clause-room g c =
+pub extend_from_word-requires-2-clause-room : goal.extend_from_word-requires-2-clause-room
+extend_from_word-requires-2-clause-room g c =
     let some = width_some _ g.met.T.BitStore.width_law in
     let inv = c.loop-bit.invariant in
     let bools = c.args.bools.now in
