@@ -24,11 +24,7 @@ fn append_one(alloc: Global, bits: &mut Refused<'_>) -> Result<(), AllocError> {
 }
 
 /// The call of a number, on a sequence that has no room for more.
-fn call(
-    alloc: Global,
-    bits: &mut Refused<'_>,
-    number: usize,
-) -> Result<(), AllocError> {
+fn call(alloc: Global, bits: &mut Refused<'_>, number: usize) -> Result<(), AllocError> {
     let view = BitSlice::<u8, Lsb0>::from_slice(&FULL).into_part(3..11);
     if bits.len() < 9 {
         return Ok(());
