@@ -21,6 +21,8 @@ mod marks;
 #[cfg(test)]
 mod parts_lent;
 #[cfg(test)]
+mod sequences;
+#[cfg(test)]
 mod split_edits;
 #[cfg(test)]
 mod splits_known;
