@@ -96,7 +96,7 @@ debug_python=$room/debug/bin/python
 echo 'Python with debug checks:'
 "$debug_python" tests/client.py 20
 "$debug_python" tests/oracle.py 100000
-"$debug_python" -X dev -m unittest --quiet tests/native.py tests/safety.py
+"$debug_python" -X dev -m unittest --quiet tests/native.py tests/safety.py tests/cycles.py
 
 environment /usr/bin/python3 python
 python=$room/python/bin/python
@@ -107,7 +107,7 @@ PYTHONMALLOC=malloc valgrind --quiet --error-exitcode=1 "$python" tests/client.p
 echo 'Python:'
 "$python" tests/client.py 100
 "$python" tests/oracle.py 1000000
-"$python" -m unittest --quiet tests/native.py tests/safety.py
+"$python" -m unittest --quiet tests/native.py tests/safety.py tests/cycles.py
 "$python" -c 'import doctest, fehimbary.bits; print(sum(doctest.testmod(it).failed for it in (fehimbary, fehimbary.bits)), "doctests fail")'
 mypy --strict --cache-dir "$room/mypy" python/wheel_of.py tests/example.py
 mypy --strict --cache-dir "$room/mypy" --python-executable "$python" -p fehimbary

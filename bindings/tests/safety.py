@@ -78,16 +78,6 @@ class Memories(unittest.TestCase):
         gc.collect()
         self.assertIsNone(gone())
 
-    def test_a_buffer_is_not_released_before_its_views(self):
-        memory = memoryview(bytearray(8))
-        bits = Bits(memory)
-        with self.assertRaises(BufferError):
-            memory.release()
-        del bits
-        memory.release()
-        with self.assertRaises(ValueError):
-            Bits(memory)
-
     def test_whole_elements_are_a_buffer(self):
         memory = bytearray(b"\x01\x02\x03\x04")
         bits = Bits(memory)

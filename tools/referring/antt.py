@@ -9,7 +9,7 @@ MODULE = re.compile(r"module _ (.*) where$")
 
 @dataclasses.dataclass
 class Word:
-    """A definition: its kind is word, law or set; its statement has the module's arguments, its body the equations."""
+    """A definition: its kind is word, law or set; arguments are those of the modules around it, body has its equations, line counts from 0."""
 
     kind: str
     name: str
@@ -21,6 +21,7 @@ class Word:
     statement: list
     body: list
     imports: dict
+    line: int
     laws: list = dataclasses.field(default_factory=list)
 
 
@@ -95,7 +96,7 @@ class Reader:
             is_law = not {"abbrev", "unfoldable"} & {*words} and ("-" in name or self.file.endswith("Laws"))
             kind = "law" if is_law else "word"
         body, past = self.equations(end, indent, name) if kind in ("word", "law") and "record" not in words and "data" not in words else ([], end)
-        word = Word(kind, name, self.crate, self.file, "pub" in words, comment, arguments, statement, body, self.imports)
+        word = Word(kind, name, self.crate, self.file, "pub" in words, comment, arguments, statement, body, self.imports, at)
         if kind == "set":
             word.laws = re.findall(r"[^\s(),=]+", " ".join(statement).partition("=")[2])
         self.words.append(word)

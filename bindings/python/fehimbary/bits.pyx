@@ -2,9 +2,10 @@
 """Views of the bits of a memory, by calls of the C functions."""
 
 cimport cython
-from cpython.buffer cimport PyBUF_FULL_RO, PyBuffer_FillInfo, PyBuffer_IsContiguous, PyBuffer_Release, PyObject_GetBuffer
+from cpython.buffer cimport PyBuffer_FillInfo, PyBuffer_IsContiguous
 from cpython.bytes cimport PyBytes_FromStringAndSize
 from cpython.mem cimport PyMem_Free, PyMem_Malloc
+from cpython.memoryview cimport PyMemoryView_FromObject, PyMemoryView_GET_BUFFER
 from cpython.number cimport PyNumber_Index
 from cpython.object cimport Py_EQ, Py_GE, Py_LE, Py_LT, Py_NE
 from cpython.ref cimport Py_DECREF
@@ -112,7 +113,7 @@ cdef class Bits:
 
     cdef object __weakref__
     cdef fb_window window
-    cdef Py_buffer buffer  # of the bits that were made of a memory
+    cdef object held  # of the bits that were made of a memory: a memoryview of it, since the collector may clear one that is exported
     cdef Bits keeper  # of a part: the bits that it was cut from
     cdef bint fixed  # the memory can't be written
     cdef uint64_t[8] room  # the elements of bits that have a memory of their own, or else these are in the block
@@ -123,21 +124,22 @@ cdef class Bits:
 
     def __init__(self, memory, order=Lsb0):
         """All bits of a memory. TypeError: it isn't as above; ValueError: it isn't aligned."""
-        if <void *>self.buffer.obj != NULL or self.keeper is not None or self.window.len:
+        cdef Py_buffer *buffer
+        if self.held is not None or self.keeper is not None or self.window.len:
             raise TypeError("these bits have a memory")
-        PyObject_GetBuffer(memory, &self.buffer, PyBUF_FULL_RO)
-        form, size = "B" if self.buffer.format == NULL else self.buffer.format.decode(), self.buffer.itemsize
+        held = PyMemoryView_FromObject(memory)
+        buffer = PyMemoryView_GET_BUFFER(held)
+        form, size, number = "B" if buffer.format == NULL else buffer.format.decode(), buffer.itemsize, Order(order)
         if form.lstrip("@=<" if sys.byteorder == "little" else "@=>") not in tuple("BHILQN"):
             raise TypeError(f"elements of format '{form}', and not unsigned integers of 8 to 64 bits")
-        if not PyBuffer_IsContiguous(&self.buffer, b"C"):
+        if not PyBuffer_IsContiguous(buffer, b"C"):
             raise TypeError("a buffer that isn't contiguous")
-        if self.buffer.len and <uintptr_t>self.buffer.buf % size:
+        if buffer.len and <uintptr_t>buffer.buf % size:
             raise ValueError(f"a buffer that isn't aligned for elements of {8 * size} bits")
-        self.window = fb_window(self.buffer.buf, self.buffer.len // size, 0, 8 * self.buffer.len, Order(order), 2 + size.bit_length())
-        self.fixed = self.buffer.readonly
+        self.held, self.fixed = held, buffer.readonly
+        self.window = fb_window(buffer.buf, buffer.len // size, 0, 8 * buffer.len, number, 2 + size.bit_length())
 
     def __dealloc__(self):
-        PyBuffer_Release(&self.buffer)
         PyMem_Free(self.block)
 
     @staticmethod
@@ -462,7 +464,7 @@ cdef inline int cut(Bits bits, object key, fb_window *part) except -1:
 cdef inline Window written(Bits bits) except NULL:
     """The window of bits that can be written."""
     if bits.fixed:
-        raise ReadOnly(f"the memory of a {type(root_of(bits).buffer.obj).__name__} that can only be read")
+        raise ReadOnly(f"the memory of a {type(root_of(bits).held.obj).__name__} that can only be read")
     return &bits.window
 
 cdef inline Bits right_of(Window left, Bits right, bint is_written):

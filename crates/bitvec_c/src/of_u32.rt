@@ -1,7 +1,10 @@
 //! The exports over elements of 32 bits.
+ghost use Rattle.std.specs.Prelude.{◌&&◌};
+ghost use Rattle.bitvec_base.specs.Lists.{differs};
 ghost use Rattle.bitvec_run.specs.declared.command.Op.TheVariants.{All, And, Any, Cmp, Contains, CopyFrom, CopyWithin, CountOnes, CountZeros, EndsWith, Eq, Fill, FirstOne, FirstZero, Get, Invert, LastOne, LastZero, Or, Replace, Reverse, RotateLeft, RotateRight, Set, ShiftEnd, ShiftStart, StartsWith, Swap, Xor};
 ghost use Rattle.bitvec_segments.specs.Segments.{loaded_be, loaded_le, stored_be, stored_le};
-ghost use Rattle.bitvec_checked.specs.Calls.{Asks, AsksBeside, EditsBy, EditsBeside, Loads, Seeks, Stores, Swaps};
+ghost use Rattle.bitvec_checked.specs.Calls.{Asks, AsksBeside, CopiesEvery, CountsEvery, EditsBeside, EditsBy, FillsEvery, Loads, Seeks, Stores, Swaps, Tells};
+ghost use Rattle.bitvec_checked.specs.Pairs.{no_pair_where, only_first, pairs_where};
 ghost use Rattle.bitvec_checked.specs.Replies.{bit_of, count_of, order_of};
 ghost use Rattle.bitvec_checked.specs.Statuses.{bits_from};
 ghost use Rattle.bitvec_c.specs.Ones.{Lists};
@@ -568,4 +571,166 @@ pub extern "C" fn fb_u32_ones(
     ensures { Lists order 32 (λ x. x) from (bits_from start len) elements.now indices.old indices.new found.old found.new result }
 {
     ones(order, elements, start, len, from, indices, found)
+}
+
+/// Makes every so many bits of a window `bit`.
+#[unsafe(no_mangle)]
+pub extern "C" fn fb_u32_fill_step(
+    order: u32,
+    elements: &mut [u32],
+    start: usize,
+    len: usize,
+    step: usize,
+    bit: bool,
+) -> u32
+    ensures { FillsEvery order 32 (λ x. x) step bit (bits_from start len) elements.old elements.new result }
+{
+    bitvec_checked::fill_step(order, elements, start, len, step, bit)
+}
+
+/// How many of every so many bits of a window are 1.
+#[unsafe(no_mangle)]
+pub extern "C" fn fb_u32_count_step(
+    order: u32,
+    elements: &[u32],
+    start: usize,
+    len: usize,
+    step: usize,
+    ones: &mut usize,
+) -> u32
+    ensures { CountsEvery order 32 (λ x. x) step (bits_from start len) elements.now ones.old ones.new result }
+{
+    bitvec_checked::count_step(order, elements, start, len, step, ones)
+}
+
+/// Copies every so many bits of the right window to every so many places of a window, which are as many.
+#[unsafe(no_mangle)]
+pub extern "C" fn fb_u32_copy_step(
+    order: u32,
+    elements: &mut [u32],
+    start: usize,
+    len: usize,
+    right: &[u32],
+    right_start: usize,
+    right_len: usize,
+    step: usize,
+    right_step: usize,
+) -> u32
+    ensures { CopiesEvery order 32 (λ x. x) step (bits_from start len) (bits_from right_start right_len) right_step elements.old elements.new right.now result }
+{
+    bitvec_checked::copy_step(
+        order,
+        elements,
+        start,
+        len,
+        right,
+        right_start,
+        right_len,
+        step,
+        right_step,
+    )
+}
+
+/// How many bits of a window are 1, and so are those at their indices in the right window.
+#[unsafe(no_mangle)]
+pub extern "C" fn fb_u32_count_and(
+    order: u32,
+    elements: &[u32],
+    start: usize,
+    len: usize,
+    right: &[u32],
+    right_start: usize,
+    right_len: usize,
+    pairs: &mut usize,
+) -> u32
+    ensures { Tells order 32 (λ x. x) (pairs_where ◌&&◌) (bits_from start len) (bits_from right_start right_len) elements.now right.now pairs.old pairs.new result }
+{
+    bitvec_checked::count_and(
+        order,
+        elements,
+        start,
+        len,
+        right,
+        right_start,
+        right_len,
+        pairs,
+    )
+}
+
+/// How many bits of a window differ from those at their indices in the right window, 0 past its end.
+#[unsafe(no_mangle)]
+pub extern "C" fn fb_u32_count_xor(
+    order: u32,
+    elements: &[u32],
+    start: usize,
+    len: usize,
+    right: &[u32],
+    right_start: usize,
+    right_len: usize,
+    pairs: &mut usize,
+) -> u32
+    ensures { Tells order 32 (λ x. x) (pairs_where differs) (bits_from start len) (bits_from right_start right_len) elements.now right.now pairs.old pairs.new result }
+{
+    bitvec_checked::count_xor(
+        order,
+        elements,
+        start,
+        len,
+        right,
+        right_start,
+        right_len,
+        pairs,
+    )
+}
+
+/// Whether no bit is 1 in a window and at its index in the right window.
+#[unsafe(no_mangle)]
+pub extern "C" fn fb_u32_disjoint(
+    order: u32,
+    elements: &[u32],
+    start: usize,
+    len: usize,
+    right: &[u32],
+    right_start: usize,
+    right_len: usize,
+    answer: &mut bool,
+) -> u32
+    ensures { Tells order 32 (λ x. x) (no_pair_where ◌&&◌) (bits_from start len) (bits_from right_start right_len) elements.now right.now answer.old answer.new result }
+{
+    bitvec_checked::disjoint(
+        order,
+        elements,
+        start,
+        len,
+        right,
+        right_start,
+        right_len,
+        answer,
+    )
+}
+
+/// Whether each bit that is 1 in a window is 1 at its index in the right window.
+#[unsafe(no_mangle)]
+pub extern "C" fn fb_u32_subset(
+    order: u32,
+    elements: &[u32],
+    start: usize,
+    len: usize,
+    right: &[u32],
+    right_start: usize,
+    right_len: usize,
+    answer: &mut bool,
+) -> u32
+    ensures { Tells order 32 (λ x. x) (no_pair_where only_first) (bits_from start len) (bits_from right_start right_len) elements.now right.now answer.old answer.new result }
+{
+    bitvec_checked::subset(
+        order,
+        elements,
+        start,
+        len,
+        right,
+        right_start,
+        right_len,
+        answer,
+    )
 }

@@ -1,1 +1,4 @@
+pub mod BlockLemmas
+pub mod EveryLemmas
 pub mod NumberLemmas
+pub mod PairLemmas

@@ -1,3 +1,5 @@
 pub mod Calls
+pub mod Every
+pub mod Pairs
 pub mod Replies
 pub mod Statuses

@@ -1,7 +1,8 @@
 -- By which number a call says whether it was carried out, or why it was not.
 --
 -- `order` is the number of an order; `xs` is the memory of b-bit elements that a call is about, and `ys` the right one.
-use Rattle.std.specs.Prelude.{ℕ, zero, suc, ◌*◌, false, ◌&&◌, nat_le, if◌then◌else◌, Option, Some, None, List, [], length, replicate}
+use Rattle.std.specs.Prelude.{ℕ, zero, suc, ◌*◌, ◌==◌, false, ◌&&◌, nat_le, if◌then◌else◌, Option, Some, None, List, [], length, replicate}
+use Rattle.std.specs.Int.{div_ceil}
 use Rattle.bitvec_base.specs.declared.window.Window.{Window}
 use Rattle.bitvec_base.specs.Window.{max_bits}
 use Rattle.bitvec_run.specs.declared.command.Op.{Op}
@@ -62,3 +63,11 @@ width_status len = refusal_status (unless (nat_le 1 len && nat_le len 64) Width)
 -- a walk of a window begins at one of its indices, or at its end
 abbrev pub end_status : ℕ → ℕ → ℕ
 end_status from len = refusal_status (unless (nat_le from len) Index)
+
+-- a step isn't 0, and each of two goes through windows of n and m bits as often
+abbrev pub step_status : ℕ → ℕ
+step_status step = if step == 0 then 14 else 0
+
+abbrev pub steps_status : ℕ → ℕ → ℕ → ℕ → ℕ
+steps_status step n right_step m =
+    or_next (step_status step) (or_next (step_status right_step) (refusal_status (unless (div_ceil n step == div_ceil m right_step) Length)))

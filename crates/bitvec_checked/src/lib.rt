@@ -32,10 +32,12 @@ macro_rules! tested {
 mod bits;
 mod comparing;
 mod counting;
+mod every;
 mod filling;
 mod moving;
 mod needles;
 mod numbers;
+mod pairs;
 mod scanning;
 mod status;
 mod transfers;
@@ -43,10 +45,12 @@ mod transfers;
 pub use bits::{get, replace, set, swap_bits};
 pub use comparing::{compare, equal};
 pub use counting::{all, any, count_ones, count_zeros};
+pub use every::{copy_step, count_step, fill_step};
 pub use filling::{fill, invert};
 pub use moving::{copy_within, reverse, rotate_left, rotate_right, shift_end, shift_start};
 pub use needles::{contains, ends_with, starts_with};
 pub use numbers::{load_be, load_le, store_be, store_le};
+pub use pairs::{count_and, count_xor, disjoint, subset};
 pub use scanning::{first_one, first_zero, last_one, last_zero};
 pub use status::{
     DONE, LSB0, MSB0, NONE, ORDER, SIZE, end_status, memories_status, or_next, window_status,

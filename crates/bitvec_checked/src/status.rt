@@ -1,11 +1,12 @@
 //! Whether a call is carried out, and if not, why: its status, a number.
 ghost use Rattle.std.specs.Prelude.{◌≡◌, ◌*◌, ◌<◌, ◌≤◌, [], false, length, map, replicate};
+ghost use Rattle.std.specs.Int.{div_ceil};
 ghost use Rattle.bitvec_base.specs.Lists.{FitsWithin};
 ghost use Rattle.bitvec_base.specs.Memory.{FitsMaxBits, HasWindow};
 ghost use Rattle.bitvec_run.specs.Commands.{amount_refusal, index_refusal, op_refusal, right_refusal};
 ghost use Rattle.bitvec_run.specs.Rows.{unless};
 ghost use Rattle.bitvec_run.specs.declared.command.Op.TheVariants.{CopyFrom, CopyWithin, Swap};
-ghost use Rattle.bitvec_checked.specs.Statuses.{end_status, memories_status, or_next, refusal_status, status_beside, width_status, window_status};
+ghost use Rattle.bitvec_checked.specs.Statuses.{end_status, memories_status, or_next, refusal_status, status_beside, step_status, steps_status, width_status, window_status};
 
 use bitvec_base::Window;
 use bitvec_cells::{CellsRead, Shared, fits_max_bits, has_window};
@@ -25,6 +26,8 @@ pub const ORDER: u32 = 9;
 pub const SIZE: u32 = 10;
 /// There is no bit such as was looked for.
 pub const NONE: u32 = 11;
+/// A step is 0.
+pub const STEP: u32 = 14;
 
 /// The first of two statuses that isn't `DONE`.
 #[inline(always)]
@@ -182,4 +185,31 @@ pub(crate) fn width_status(len: usize) -> u32
     ensures most { result ≡ 0 → len ≤ 64 }
 {
     unless(1 <= len && len <= 64, Refusal::Width)
+}
+
+/// Whether a step goes on.
+#[inline(always)]
+pub(crate) fn step_status(step: usize) -> u32
+    ensures status { result ≡ step_status step }
+    ensures some { result ≡ 0 → 0 < step }
+{
+    if step == 0 { STEP } else { DONE }
+}
+
+/// Whether two steps go on, and go through windows of so many bits as often as one another.
+#[inline(always)]
+pub(crate) fn steps_status(step: usize, len: usize, right_step: usize, right_len: usize) -> u32
+    ensures status { result ≡ steps_status step len right_step right_len }
+    ensures some { result ≡ 0 → 0 < step }
+    ensures right_some { result ≡ 0 → 0 < right_step }
+    ensures lengths { result ≡ 0 → div_ceil len step ≡ div_ceil right_len right_step }
+{
+    let status = or_next(step_status(step), step_status(right_step));
+    if status != DONE {
+        return status;
+    }
+    unless(
+        len.div_ceil(step) == right_len.div_ceil(right_step),
+        Refusal::Length,
+    )
 }

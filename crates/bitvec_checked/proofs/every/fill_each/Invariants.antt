@@ -1,0 +1,11 @@
+use Rattle.std.proofs.Common.{map}
+use Rattle.bitvec_base.specs.Memory.{Writes, list_in}
+use Rattle.bitvec_checked.proofs.EveryLemmas.{with_first}
+use Rattle.bitvec_checked.proofs.every.fill_each.Given as goal
+
+abbrev pub invariant-loop-place : goal.invariant-loop-place
+invariant-loop-place g l =
+    let b = g.T.BitStore.BITS in
+    let at = g.O.BitOrder.at in
+    let before = map g.T.BitStore.value l.fn.elements in
+    Writes b at before (map g.T.BitStore.value l.elements) l.window (with_first l.place l.step (λ k. l.bit) (list_in b at before l.window))
