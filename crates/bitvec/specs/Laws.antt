@@ -23,7 +23,8 @@ use Rattle.bitvec_iter.specs.Laws.{walked as walks}
 use Rattle.bitvec_segments.specs.LoadLaws.{loaded-one, loaded_be-phase, loaded_le-phase}
 use Rattle.bitvec_segments.specs.StoreLaws.{length-stored, loaded_be-determines, loaded_be-stores, loaded_le-determines, loaded_le-stores, stored_be-loads, stored_le-loads}
 use Rattle.bitvec_owned.specs.AroundLaws.{around-then, around-written, holds-then}
-use Rattle.bitvec_owned.specs.WritesLaws.{length-owned}
+use Rattle.bitvec_owned.specs.SequenceLaws.{begins-more, begins-own, get-insert_at, get-insert_before, get-insert_behind, get-remove_before, get-remove_behind, get-remove_range_before, get-remove_range_behind, get-swap_remove_at, get-swap_remove_other, insert-remove, length-inserted_one, length-remove_range, length-removed_one, length-swap_remove, remove-insert}
+use Rattle.bitvec_owned.specs.WritesLaws.{length-owned, owned-room}
 use Rattle.bitvec_split.specs.AskedLaws.{may_ask_always}
 use Rattle.bitvec_closures.specs.WritesLaws.{written-around, written-none, written-then}
 use Rattle.bitvec.specs.ComposedLaws.{array-none, array-then, owned-both, owned-none, owned-then}
@@ -82,8 +83,12 @@ pub ruleset matched = (lengths, is_prefix-no_longer, prefix-bit, prefix-stripped
 -- after `cmp`, `<` and their kin: the order is total and agrees with `==`; and equal views feed a hasher the same
 pub ruleset ordered = (orders, fed_same)
 
--- sequences that grow: how many bits there are, and what one held with zeros around it, through several calls
-pub ruleset grown = (width_some, length-owned, around-then, around-written, holds-then)
+-- sequences that grow: how many bits there are, and that there is memory for them; with which bits one begins; and what one held with
+-- zeros around it, through several calls
+pub ruleset grown = (width_some, length-owned, owned-room, begins-own, begins-more, around-then, around-written, holds-then)
+
+-- after `insert`, `remove`, `swap_remove` and `drain` of a sequence: each bit, how many there are, and what undoes what
+pub ruleset reindexed = (width_some, length-owned, length-inserted_one, length-removed_one, length-swap_remove, length-remove_range, get-insert_before, get-insert_at, get-insert_behind, get-remove_before, get-remove_behind, get-swap_remove_at, get-swap_remove_other, get-remove_range_before, get-remove_range_behind, remove-insert, insert-remove)
 
 -- what std's adapters make of a walk: the items of a run, one after the other, are those that were to come
 pub ruleset walked = (walks)

@@ -74,6 +74,7 @@ pub use Rattle.bitvec_owned.specs.KeptBy
 pub use Rattle.bitvec_owned.specs.Owned
 pub use Rattle.bitvec_owned.specs.Retained
 pub use Rattle.bitvec_owned.specs.RetainedLaws
+pub use Rattle.bitvec_owned.specs.SequenceLaws
 pub use Rattle.bitvec_owned.specs.Writes as OwnedWrites
 pub use Rattle.bitvec_closures.specs.CoversLaws as SplitCoversLaws
 pub use Rattle.bitvec_closures.specs.Elements
