@@ -137,8 +137,8 @@ FB_DECLARE(rotate_right, FB_EDITED, size_t by)
 FB_DECLARE(copy_within, FB_EDITED, size_t from, size_t to, size_t dest)
 
 /* Gives every so many bits, from the first one on, the value `bit`: those whose index is a multiple of `step`.
- * FB_STEP where `step` is 0. At most ceil(n / step) loads and stores; up to a step of 64 also at most
- * ceil(n / 64) + n / 448 + 1 word steps. */
+ * FB_STEP where `step` is 0. ceil(n / step) loads and stores; with a step of at most 64, in a window of more than 64 * B bits, at
+ * most ceil(n / 64) + n / (448 * B) + 1 word steps. */
 FB_DECLARE(fill_step, FB_EDITED, size_t step, bool bit)
 
 /* ---- Edits by a second window, of another memory ---- */
@@ -149,7 +149,7 @@ FB_DECLARE_PLAIN(copy, FB_EDITED_BESIDE)
 
 /* Copies every so many right bits, from the first one on, to every so many bits of the window: the right bit at `k * right_step`
  * to the bit at `k * step`, for each k.
- * FB_STEP where a step is 0, FB_LENGTH unless ceil(n / step) = ceil(r / right_step). That many loads and stores, and as many
+ * FB_STEP where a step is 0, FB_LENGTH unless ceil(n / step) = ceil(r / right_step). So many loads and stores, and as many
  * loads on the right. */
 FB_DECLARE(copy_step, FB_EDITED_BESIDE, size_t step, size_t right_step)
 
