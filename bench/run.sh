@@ -76,5 +76,6 @@ out/driver plot | python3 plot.py > speeds.svg
     out/closure out/proved/bitmatrix
     echo
     PYTHONPATH=out/python /usr/bin/python3 beside_bitarray.py
+    ./rust.py out/proved/libbitvec_c.a
 } > out/results.md
 mv out/results.md RESULTS.md

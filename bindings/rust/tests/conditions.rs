@@ -26,20 +26,25 @@ const BOUNDLESS: &str = "<= MAX_BITS";
 type Written<'a> = BitSliceMut<'a, u8, Msb0>;
 type Read<'a> = BitSlice<'a, u8, Msb0>;
 
-/// The conditions that were seen to be tested.
+/// The conditions that were seen to be tested, and what went wrong.
 #[derive(Default)]
-struct Seen(BTreeSet<String>);
+struct Seen {
+    conditions: BTreeSet<String>,
+    wrong: Vec<String>,
+}
 
 impl Seen {
     /// Sees that a call on the bytes is refused with a condition, and leaves them.
     fn refuse(&mut self, name: &str, call: impl FnOnce(&mut [u8; 6])) {
         let mut bytes = BYTES;
-        let panic = catch_unwind(AssertUnwindSafe(|| call(&mut bytes))).expect_err(name);
-        let message = panic.downcast_ref::<String>().unwrap_or_else(|| panic!("{name} panics with no message"));
-        let condition = message.split(':').next().unwrap_or_default();
-        assert!(condition.starts_with(&format!("{name} needs that ")), "{name}: {message}");
-        assert_eq!(bytes, BYTES, "{name} wrote");
-        self.0.insert(condition.to_string());
+        let ended = catch_unwind(AssertUnwindSafe(|| call(&mut bytes)));
+        let message = ended.err().and_then(|panic| panic.downcast_ref::<String>().cloned());
+        let condition = message.as_deref().unwrap_or_default().split(':').next().unwrap_or_default();
+        if condition.starts_with(&format!("{name} needs that ")) && bytes == BYTES {
+            self.conditions.insert(condition.to_string());
+        } else {
+            self.wrong.push(format!("{name}: {message:?}, and the bytes are {bytes:X?}"));
+        }
     }
 }
 
@@ -470,9 +475,10 @@ fn each_condition_is_tested_before_anything_is_written() {
         unchecked(&mut seen);
     }
     let _ = std::panic::take_hook();
+    assert!(seen.wrong.is_empty(), "{:#?}", seen.wrong);
     let is_left = |condition: &&&str| {
         let is_debug = condition.contains("_unchecked") && !cfg!(debug_assertions);
-        !seen.0.contains(**condition) && !condition.ends_with(BOUNDLESS) && !is_debug
+        !seen.conditions.contains(**condition) && !condition.ends_with(BOUNDLESS) && !is_debug
     };
     let left: Vec<_> = list::CONDITIONS.iter().filter(is_left).collect();
     assert!(left.is_empty(), "no call here breaks {left:#?}");
