@@ -20,8 +20,8 @@ const OUT: Window = Window { start: 44, len: 5 };
 const SHORT: Window = Window { start: 3, len: 19 };
 /// A part that isn't one.
 const PART: Part = Part { element: 6, from: 0, to: 1 };
-/// Conditions that no memory can break, since no address space has so many elements.
-const BOUNDLESS: &str = "<= MAX_BITS";
+/// How conditions end that nothing here can break: no address space has so many elements, and each integer has a bit.
+const BOUNDLESS: [&str; 2] = ["<= MAX_BITS", "0 < I.BITS"];
 
 type Written<'a> = BitSliceMut<'a, u8, Msb0>;
 type Read<'a> = BitSlice<'a, u8, Msb0>;
@@ -331,7 +331,8 @@ fn ranges_in_place(seen: &mut Seen) {
         contains(|bytes| in_place::contains::<u8, Msb0, u8, Msb0>(bytes, 40..49, other));
         swap_with(|bytes| in_place::swap_with::<u8, Msb0, u8, Msb0>(bytes, 40..49, &mut view(&mut BYTES.clone())));
         swap_with(|bytes| in_place::swap_with::<u8, Msb0, u8, Msb0>(bytes, 0..9, &mut view(&mut BYTES.clone())));
-        take(|bytes| in_place::BitReader::<u8, Msb0>::new(bytes).take::<u8>(0));
+        peek(|bytes| in_place::BitReader::<u8, Msb0>::new(bytes).peek::<u8>(9));
+        starting_at(|bytes| in_place::BitWriter::<u8, Msb0>::starting_at(bytes, 49));
         take(|bytes| in_place::BitReader::<u8, Msb0>::new(bytes).take::<u8>(9));
         put_row(|bytes| in_place::BitWriter::<u8, Msb0>::new(bytes).put_row(&[(3, 1), (65, 1)]));
         put(|bytes| in_place::BitWriter::<u8, Msb0>::new(bytes).put::<u8>(1, 9));
@@ -432,6 +433,8 @@ fn sequences(seen: &mut Seen) {
     refused!(seen;
         from_elements(|bytes| BitVec::<u8, Msb0>::from_elements(bytes.to_vec().into(), 8, 1));
         from_elements(|bytes| BitVec::<u8, Msb0>::from_elements(bytes.to_vec().into(), 7, 42));
+        extend_highest_first(|_bytes| made().extend_highest_first(1, 65));
+        extend_lowest_first(|_bytes| made().extend_lowest_first(1, 65));
         insert(|_bytes| made().insert(49, true));
         remove(|_bytes| made().remove(48));
         swap_remove(|_bytes| made().swap_remove(48));
@@ -478,7 +481,7 @@ fn each_condition_is_tested_before_anything_is_written() {
     assert!(seen.wrong.is_empty(), "{:#?}", seen.wrong);
     let is_left = |condition: &&&str| {
         let is_debug = condition.contains("_unchecked") && !cfg!(debug_assertions);
-        !seen.conditions.contains(**condition) && !condition.ends_with(BOUNDLESS) && !is_debug
+        !seen.conditions.contains(**condition) && !BOUNDLESS.iter().any(|end| condition.ends_with(end)) && !is_debug
     };
     let left: Vec<_> = list::CONDITIONS.iter().filter(is_left).collect();
     assert!(left.is_empty(), "no call here breaks {left:#?}");
