@@ -22,7 +22,7 @@ extern crate alloc;
 
 mod conditions;
 pub mod memory;
-#[allow(dead_code, deprecated, missing_docs, unused_imports, unused_mut, unused_parens, unused_variables, clippy::all)]
+#[allow(dead_code, deprecated, missing_docs, private_interfaces, unused_imports, unused_mut, unused_parens, unused_variables, clippy::all)]
 mod proved;
 mod traits;
 mod vectors;
