@@ -18,7 +18,7 @@ loop-place-preserved c =
     let digits : List ℕ = c.args.digits.now in
     let place : ℕ = c.loop-place.place in
     let old = msb0_bits 8 c.loop-place.bytes in
-    let set : msb0_bits 8 c.set.new.bytes ≡ slice_set old place c.in_ok-bit.bit = grind (arith, common_steps) in
+    let set : msb0_bits 8 c.set.new.elements ≡ slice_set old place c.in_ok-bit.bit = grind (arith, common_steps) in
     let is : bit_text c.in_ok-bit.bit ≡ slice_index digits place ∷ [] = grind (arith, common_steps) in
     ap (λ bits. digits_of (take (place + 1) bits)) set
     ∙ digits-more old digits place c.in_ok-bit.bit c.loop-place.invariant (omega arith) (inside c.loop-place.bytes _ (grind (arith, common_steps))) is

@@ -13,7 +13,7 @@ returns-clause-printed g c =
     let before = g.W.Write.contents c.args.output.now in
     let after = g.W.Write.contents c.print_bits.new.output in
     let words = map (string_bytes {Z = Global}) c.args.words.now in
-    let shown = (seen c.into_part.result).bits in
+    let shown = (seen c.into_part-bits.result).bits in
     let prints : Appends before after (line_of (digits_of shown)) → PrintsCodes words before after =
     prints-codes before after words c.in_ok-numbers.numbers.items (msb0_bits 8 c.encode.new.bytes) shown c.in_ok-len.len
     c.in_ok-numbers.ensures.numbers (grind (arith, common_steps)) (grind (arith, common_steps)) (inside c.encode.new.bytes c.in_ok-len.len (grind (arith, common_steps))) (grind (arith, common_steps)) in
