@@ -1,7 +1,7 @@
 #!/bin/sh
 # Builds the library, its peers and the driver, writes RESULTS.md, which README.md explains, and draws speeds.svg.
 # What it builds goes to bench/out and to out/ of bindings, crates/bitvec_c, crates/bitvec_c_run,
-# crates/bitvec_times, crates/sieve and crates/bitmatrix.
+# crates/sieve and crates/bitmatrix.
 set -eu
 cd "$(dirname "$0")"
 
@@ -22,15 +22,15 @@ fi
 
 mkdir -p out
 (cd ../crates/bitvec_c && rt lib) >&2
-(cd ../crates/bitvec_times && rt run -- encode 8 0 0) >/dev/null
 (cd ../crates/sieve && rt run -- count 0) >/dev/null
 (cd ../crates/bitmatrix && rt run -- chain 0) >/dev/null
 make -s -C ../bindings wheel PYTHON=/usr/bin/python3 >&2
 mkdir -p out/proved
 ./proved.py bitvec_c out/proved/libbitvec_c.a >&2
-for program in bitvec_times sieve bitmatrix; do
+for program in sieve bitmatrix; do
     ./proved.py "$program" "out/proved/$program" >&2
 done
+./unproved.py bitvec_times out/bitvec_times >&2
 /usr/bin/python3 -m zipfile -e ../bindings/out/fehimbary-*.whl out/python
 
 # rust NAME KIND SOURCE FLAGS..: compiles one crate of the peers
@@ -71,7 +71,7 @@ out/driver plot | python3 plot.py > speeds.svg
     echo "- load at the start: $(cut -d ' ' -f 1 /proc/loadavg)"
     echo
     out/driver
-    out/programs out/proved/bitvec_times
+    out/programs out/bitvec_times
     out/sieve out/proved/sieve
     out/closure out/proved/bitmatrix
     echo

@@ -21,10 +21,10 @@ def library():
     return made
 
 
-def crate_of(rtlib, name):
-    """A crate of the repository, whose folder is then the current one: its words name files from there."""
-    os.chdir(TOP)
-    crate = next((it for it in rtlib.crates_below(str(TOP)) if it.name == name), None)
+def crate_of(rtlib, name, top=TOP):
+    """A crate of a repository, whose folder is then the current one: its words name files from there."""
+    os.chdir(top)
+    crate = next((it for it in rtlib.crates_below(str(top)) if it.name == name), None)
     os.chdir((crate or sys.exit(f"no crate {name}")).folder)
     return crate
 

@@ -1,10 +1,9 @@
 """`proofs lay`: puts the libraries of an archive into the crates' out/, as far as they fit."""
 import contextlib
-import fcntl
 import hashlib
+import io
 import json
 import lzma
-import os
 import pathlib
 import re
 import shutil
@@ -13,22 +12,47 @@ import tarfile
 import tempfile
 
 import library
+from change import Change, held
 from library import FORMAT, LIST, ROOTS, Progress, Refused, member
 
 UNZIP = ["zstd", "-q", "-d", "--long=27", "-c"]
 ZSTD_BEGINS, XZ_BEGINS = b"\x28\xb5\x2f\xfd", b"\xfd7zXZ\x00"
-BUILT = "it is built already"
+# Why a library isn't laid, or (the last) is laid over what stands there.
+UNLISTED, BUILT, DAMAGED = "crates.txt has no such crate", "it is built already", "it was damaged"
+FITS, LAID = (None, BUILT, DAMAGED), (None, DAMAGED)
+
+
+class Unxz(io.RawIOBase):
+    """The bytes of one stream of xz. Bytes behind its end are refused (Python's own reader skips them)."""
+
+    def __init__(self, raw):
+        self.raw, self.unzip = raw, lzma.LZMADecompressor()
+
+    def readable(self):
+        return True
+
+    def readinto(self, room):
+        while not self.unzip.eof:
+            given = self.raw.read(1 << 16) if self.unzip.needs_input else b""
+            if self.unzip.needs_input and not given:
+                raise EOFError("it is cut")
+            data = self.unzip.decompress(given, len(room))
+            if data:
+                room[: len(data)] = data
+                return len(data)
+        if self.unzip.unused_data or self.raw.read(1):
+            raise Refused("the archive has more behind its end")
+        return 0
 
 
 @contextlib.contextmanager
 def unzipped(file):
-    """The stream of an archive's bytes, by what the file begins with."""
+    """The stream of an archive's bytes, by what the file begins with. It is whole only once this has ended."""
     with open(file, "rb", buffering=0) as raw:
         begin = raw.read(6)
         raw.seek(0)
         if begin == XZ_BEGINS:
-            with lzma.open(raw) as stream:
-                yield stream
+            yield io.BufferedReader(Unxz(raw), 1 << 20)
             return
         if not begin.startswith(ZSTD_BEGINS):
             raise Refused(f"{file} is no archive of proofs: it is neither zstd's nor xz's")
@@ -37,7 +61,7 @@ def unzipped(file):
         with subprocess.Popen(UNZIP, stdin=raw, stdout=subprocess.PIPE, stderr=subprocess.DEVNULL) as ran:
             yield ran.stdout
             if ran.wait():
-                raise Refused(f"{file} is damaged or cut")
+                raise Refused(f"{file} is damaged or cut, or has more behind its end")
 
 
 def is_inside(name, path):
@@ -65,24 +89,29 @@ def listing_of(tar):
 
 def stands(folder, files):
     """What stands in a crate's out/ of this very library, if anything."""
-    sums = {path: wanted for path, _, wanted in files}
     rlib, of_all = folder / "out/rlib", f"{folder.name}.rlib/format"
-    if not (rlib / "stamp").is_file() or library.sum_of(rlib / "stamp") != sums["stamp"] or not (rlib / of_all).is_file():
+    wanted = {path: it for path, _, it in files}
+    if not (rlib / "stamp").is_file() or library.sum_of(rlib / "stamp") != wanted["stamp"]:
         return None
-    return BUILT if library.sum_of(rlib / of_all) == sums[of_all] else "another build of it stands here"
+    paths = [rlib / "stamp", *(path for path in (rlib / f"{folder.name}.rlib").rglob("*") if path.is_file())]
+    there = {path.relative_to(rlib).as_posix(): library.sum_of(path) for path in paths}
+    others = {path for path in {*wanted, *there} if wanted.get(path) != there.get(path)}
+    if of_all in others and of_all in there and len(others) > 1:
+        return f"another build of it stands here: remove {rlib} to lay this one"
+    return DAMAGED if others else BUILT
 
 
-def obstacle(top, lines, it, why):
-    """Why a library isn't laid, or None; why: the answers for those below."""
+def obstacle(top, text, lines, it, why):
+    """Why a library isn't laid, or None; text: whose sources these are, why: the answers for those below."""
     name, folder = it["name"], top / "crates" / it["name"]
     if name not in lines:
-        return "crates.txt has no such crate"
+        return UNLISTED
     if any(path.is_symlink() for path in (folder.parent, folder, folder / "out", folder / "out/rlib")):
         raise Refused(f"{folder}/out is reached by a link, and may lie elsewhere")
-    if library.sum_of_sources(top, name, lines[name][0]) != it["sources"]:
+    if library.sum_of_sources(text, name, lines[name][0]) != it["sources"]:
         return "its sources here are others"
     for lower in lines[name][1]:
-        if lower in lines and why.get(lower, "") not in (None, BUILT):
+        if lower in lines and why.get(lower, "") not in FITS:
             return f"it stands on {lower}, which doesn't fit"
     return stands(folder, it["files"])
 
@@ -107,62 +136,74 @@ def unpack(tar, libraries, why, room):
         progress.say(number, it["name"])
         for path, size, wanted in it["files"]:
             data = read_file(tar, member(it["name"], path), size, wanted)
-            if why[it["name"]] is None:
+            if why[it["name"]] in LAID:
                 to = room / it["name"] / path
                 to.parent.mkdir(parents=True, exist_ok=True)
                 to.write_bytes(data)
     progress.end()
-    if tar.next() is not None:
-        raise Refused("it has files that its list hasn't")
+    while True:
+        rest = tar.fileobj.read(1 << 16)
+        if rest.strip(b"\0"):
+            raise Refused("it has more than its list says")
+        if not rest:
+            return
 
 
-def put(top, names, room):
-    """Moves the libraries from the room into the crates' out/, while no `rt` is at work there."""
-    with contextlib.ExitStack() as held:
-        for name in names:
-            folder = os.open(top / "crates" / name, os.O_RDONLY)
-            held.callback(os.close, folder)
-            try:
-                fcntl.flock(folder, fcntl.LOCK_EX | fcntl.LOCK_NB)
-            except BlockingIOError:
-                raise Refused(f"rt is at work in crates/{name}: lay the proofs when it has ended")
-        for name in names:
-            rlib = top / member(name, "")
-            rlib.parent.mkdir(exist_ok=True)
-            if rlib.exists():
-                rlib.rename(room / f"{name}.was")
-            (room / name).rename(rlib)
+class Archive:
+    """An archive that was read whole and is in order: its list, why a library isn't laid, and where those that are to be laid lie unpacked."""
+
+    def __init__(self, listing, why, room):
+        self.listing, self.why, self.room = listing, why, room
+
+    def named(self, *answers):
+        """The libraries with one of these answers."""
+        return [name for name, it in self.why.items() if it in answers]
+
+    def plan(self, top, change):
+        """Plans that the libraries come into the crates' out/."""
+        for name in self.named(*LAID):
+            change.put(top / member(name, "").rstrip("/"), self.room / name)
+
+    def tell(self, top):
+        """Says what was laid, what was left, and what a check still proves."""
+        of = f"built of Fehimbary {self.listing['version']}, commit {self.listing['commit'][:12]}"
+        here = {name: it for name, it in self.why.items() if it != UNLISTED}
+        print(f"laid {len(self.named(*LAID))} of {len(here)} libraries, {of}")
+        lists = {"damaged, and laid again": DAMAGED, "already built": BUILT, "also in the archive, and not listed by crates.txt here": UNLISTED}
+        for what, answer in lists.items():
+            if self.named(answer):
+                print(f"{what}: {' '.join(self.named(answer))}")
+        for name, it in here.items():
+            if it not in FITS:
+                print(f"left {name}: {it}")
+        rest = [name for name in library.below(library.lines_of(top), *ROOTS) if here.get(name, "") not in FITS]
+        still = f"a check still proves these, unless they are built here: {' '.join(rest)}"
+        print(still if rest else "a check of a crate above proves only that crate")
 
 
-def tell(top, listing, why):
-    """Says what was laid, what was left, and what a check still proves."""
-    laid = [name for name, it in why.items() if it is None]
-    built = [name for name, it in why.items() if it == BUILT]
-    print(f"laid {len(laid)} of {len(why)} libraries, built of Fehimbary {listing['version']}, commit {listing['commit'][:12]}")
-    if built:
-        print(f"already built: {' '.join(built)}")
-    for name, it in why.items():
-        if it not in (None, BUILT):
-            print(f"left {name}: {it}")
-    rest = [name for name in library.below(library.lines_of(top), *ROOTS) if why.get(name, "") not in (None, BUILT)]
-    print(f"a check still proves these, unless they are built here: {' '.join(rest)}" if rest else "a check of a crate above proves that crate alone")
+@contextlib.contextmanager
+def opened(file, top, text, lines):
+    """Reads an archive whole, for a repository with the sources of text and these lines of crates.txt."""
+    if not file.is_file():
+        raise Refused(f"there is no file {file}")
+    with tempfile.TemporaryDirectory(prefix=".proofs-", dir=top) as room:
+        try:
+            with unzipped(file) as stream, tarfile.open(fileobj=stream, mode="r|") as tar:
+                listing, why = listing_of(tar), {}
+                for it in listing["libraries"]:
+                    why[it["name"]] = obstacle(top, text, lines, it, why)
+                unpack(tar, listing["libraries"], why, pathlib.Path(room))
+                stream.read()
+        except (tarfile.TarError, lzma.LZMAError, EOFError, ValueError, KeyError, TypeError) as error:
+            raise Refused(f"{file} is damaged or cut, or no archive of proofs ({error})")
+        yield Archive(listing, why, pathlib.Path(room))
 
 
 def lay(file, top):
-    for needed in (file, top / "crates.txt"):
-        if not needed.is_file():
-            raise Refused(f"there is no file {needed}")
-    try:
-        with unzipped(file) as stream, tarfile.open(fileobj=stream, mode="r|") as tar:
-            listing = listing_of(tar)
-            lines, why = library.lines_of(top), {}
-            for it in listing["libraries"]:
-                why[it["name"]] = obstacle(top, lines, it, why)
-            with tempfile.TemporaryDirectory(prefix=".proofs-", dir=top) as room:
-                unpack(tar, listing["libraries"], why, pathlib.Path(room))
-                if stream.read().strip(b"\0"):
-                    raise Refused("it has more behind its end")
-                put(top, [name for name, it in why.items() if it is None], pathlib.Path(room))
-    except (tarfile.TarError, lzma.LZMAError, EOFError, ValueError, KeyError, TypeError) as error:
-        raise Refused(f"{file} is damaged or cut, or no archive of proofs ({error})")
-    tell(top, listing, why)
+    if not (top / "crates.txt").is_file():
+        raise Refused(f"there is no file {top}/crates.txt")
+    with opened(file, top, top, library.lines_of(top)) as archive, held(top, archive.named(*LAID)):
+        change = Change(archive.room)
+        archive.plan(top, change)
+        change.carry_out()
+    archive.tell(top)

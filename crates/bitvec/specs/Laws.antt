@@ -14,8 +14,8 @@ use Rattle.bitvec_base.specs.WindowLaws.{get-window, length-window}
 use Rattle.bitvec_base.specs.WriteLaws.{get-slice_range, get-write_at_above, get-write_at_below, get-write_at_inside, length-slice_range, length-write_at, range-write_at, range-write_at_after, range-write_at_before}
 use Rattle.bitvec_cells.specs.CostLaws.{enough}
 use Rattle.bitvec_field.specs.IntegersLaws.{remainder-narrow}
-use Rattle.bitvec_in_place.specs.FrontLaws.{front-all, front-filled, front-grown, front-inserted, front-last, front-longer, front-none, front-range, front-removed, front-set_behind, front-set_inside, front-set_next, front-shorter, front-written, front-written_behind, front-written_inside, get-front, get-inserted_behind, get-removed_behind, length-front, length-inserted, length-removed, range-set_after, range-set_before, range-set_inside}
-use Rattle.bitvec_in_place.specs.Laws.{asked as in_range, lengths as kept_lengths, listed, numbers, parts, ranged}
+use Rattle.bitvec_in_place.specs.FrontLaws.{front-all, front-bits, front-filled, front-grown, front-inserted, front-last, front-longer, front-none, front-number, front-range, front-removed, front-set_behind, front-set_inside, front-set_next, front-shorter, front-written, front-written_behind, front-written_inside, get-front, get-inserted_behind, get-removed_behind, length-front, length-inserted, length-removed, range-set_after, range-set_before, range-set_inside}
+use Rattle.bitvec_in_place.specs.Laws.{asked as in_range, changed, lengths as kept_lengths, listed, numbers, parts, put as written_by, ranged}
 use Rattle.bitvec_in_place.specs.MovedLaws.{length-bits_of}
 use Rattle.bitvec_in_place.specs.RangesLaws.{worded as words}
 use Rattle.bitvec_iter.specs.JoinLaws.{joining as chunks}
@@ -23,15 +23,18 @@ use Rattle.bitvec_iter.specs.Laws.{walked as walks}
 use Rattle.bitvec_segments.specs.LoadLaws.{loaded-one, loaded_be-phase, loaded_le-phase}
 use Rattle.bitvec_segments.specs.StoreLaws.{length-stored, loaded_be-determines, loaded_be-stores, loaded_le-determines, loaded_le-stores, stored_be-loads, stored_le-loads}
 use Rattle.bitvec_owned.specs.AroundLaws.{around-then, around-written, holds-then}
-use Rattle.bitvec_owned.specs.WritesLaws.{length-owned}
+use Rattle.bitvec_owned.specs.SequenceLaws.{begins-more, begins-own, get-insert_at, get-insert_before, get-insert_behind, get-remove_before, get-remove_behind, get-remove_range_before, get-remove_range_behind, get-swap_remove_at, get-swap_remove_other, insert-remove, length-inserted_one, length-remove_range, length-removed_one, length-swap_remove, remove-insert}
+use Rattle.bitvec_owned.specs.WritesLaws.{length-owned, owned-room}
 use Rattle.bitvec_split.specs.AskedLaws.{may_ask_always}
 use Rattle.bitvec_closures.specs.WritesLaws.{written-around, written-none, written-then}
 use Rattle.bitvec.specs.ComposedLaws.{array-none, array-then, owned-both, owned-none, owned-then}
-use Rattle.bitvec.specs.ChangesLaws.{changes-none, changes-then, number-unchanged}
+use Rattle.bitvec_in_place.specs.ChangesLaws.{changes-none, changes-then, number-unchanged}
 use Rattle.bitvec.specs.FoundLaws.{all_in-false, all_in-none, all_in-true, any_in-false, any_in-true, first_in-absent, first_in-before, first_in-below, first_in-bit, last_in-absent, last_in-after, last_in-below, last_in-bit, number-at_one, number-before_one, number-without_one}
 use Rattle.bitvec.specs.NumberSidesLaws.{get-high_number, get-low_number, number-high_sides, number-high_stored, number-low_sides, number-low_stored, number-none, number-one, number-ones, number-zeros}
 use Rattle.bitvec.specs.OwnViewsLaws.{bits-all, bits-front, bits-range}
-use Rattle.bitvec.specs.SeamlessLaws.{loaded-seamless, number-seamless, numbered-seamless, stored-seamless}
+use Rattle.bitvec.specs.ListNumbersLaws.{bits_in-rest, range-rest, segment-front, segment-push}
+use Rattle.bitvec.specs.SeamlessLaws.{loaded-seamless, number-seamless, numbered-put, numbered-seamless, stored-seamless}
+use Rattle.bitvec_segments.specs.NumberLaws.{segment-number, segment-told, segment_number-below}
 use Rattle.bitvec.specs.ClosureLaws.{callable_below-always, callable_on_bits-always}
 use Rattle.bitvec.specs.MatchLaws.{contained, contains-absent, prefix-bit, prefix-found, prefix-stripped, suffix-bit, suffix-stripped}
 use Rattle.bitvec_slice.specs.LentLaws.{lent-none}
@@ -60,7 +63,7 @@ pub ruleset spliced = (lengths, get-window, get-slice_range, get-write_at_below,
 pub ruleset overlaid = (lengths, get-combined_within_below, get-combined_within_inside, get-combined_within_above, length-combined_within, range-combined_within, range-combined_within_before, range-combined_within_after)
 
 -- edits of one view, one sequence or one array of bits, one after the other, as one edit; of a view of which nothing was lent; and of one range of an array
-pub ruleset composed = (written-none, written-then, written-around, lent-none, width_some, owned-none, owned-then, owned-both, array-none, array-then, changes-none, changes-then)
+pub ruleset composed = (written-none, written-then, written-around, lent-none, width_some, owned-none, owned-then, owned-both, array-none, array-then, changes-none, changes-then, changed)
 
 -- `count_ones` and `count_zeros`: both make the length; after `set`; after calls that move bits or flip them
 pub ruleset counted = (lengths, ones_and_zeros, ones-more, ones-fewer, zeros-more, zeros-fewer, ones-flipped, zeros-flipped)
@@ -82,8 +85,12 @@ pub ruleset matched = (lengths, is_prefix-no_longer, prefix-bit, prefix-stripped
 -- after `cmp`, `<` and their kin: the order is total and agrees with `==`; and equal views feed a hasher the same
 pub ruleset ordered = (orders, fed_same)
 
--- sequences that grow: how many bits there are, and what one held with zeros around it, through several calls
-pub ruleset grown = (width_some, length-owned, around-then, around-written, holds-then)
+-- sequences that grow: how many bits there are, and that there is memory for them; with which bits one begins; and what one held with
+-- zeros around it, through several calls
+pub ruleset grown = (width_some, length-owned, owned-room, begins-own, begins-more, around-then, around-written, holds-then)
+
+-- after `insert`, `remove`, `swap_remove` and `drain` of a sequence: each bit, how many there are, and what undoes what
+pub ruleset reindexed = (width_some, length-owned, length-inserted_one, length-removed_one, length-swap_remove, length-remove_range, get-insert_before, get-insert_at, get-insert_behind, get-remove_before, get-remove_behind, get-swap_remove_at, get-swap_remove_other, get-remove_range_before, get-remove_range_behind, remove-insert, insert-remove)
 
 -- what std's adapters make of a walk: the items of a run, one after the other, are those that were to come
 pub ruleset walked = (walks)
@@ -116,6 +123,9 @@ pub ruleset bitwise = (lengths, kept_lengths, listed, ranged)
 -- the number of a range: stored there it is what was stored, as far as it fits; beside an edit it stays; and its bound
 pub ruleset fields = (lengths, kept_lengths, numbers, number-unchanged, length-stored, width_some)
 
+-- what cursors wrote: each number, bit and copied list stands where it was put, all else is as before, and it is what one reads there
+pub ruleset cursors = (lengths, written_by, width_some)
+
 -- a stored number by its bits and parts, from its other end, or moved; and the number of a range that was filled
 pub ruleset portions = (lengths, kept_lengths, parts, width_some)
 
@@ -125,8 +135,12 @@ pub ruleset summed = (lengths, kept_lengths, number-high_sides, number-low_sides
 -- numbers from the order's own end, `le` under `Lsb0` and `be` under `Msb0`: one family of words for views and arrays
 pub ruleset seamless = (lengths, kept_lengths, loaded-seamless, stored-seamless, number-seamless, numbered-seamless, length-element_bits, length-slice_range, width_some)
 
+-- lists of bits as numbers: the bound, the number of bits that were made of one and the other way, of one bit more and of a front and
+-- the bit behind it; and what is left of a list from a place on
+pub ruleset segmented = (segment_number-below, segment-number, segment-told, segment-push, segment-front, bits_in-rest, range-rest, numbered-put, length-element_bits, width_some)
+
 -- the first bits of an array that has room for more: each, how many, and after an edit among them, behind them or at their end
-pub ruleset fronts = (lengths, kept_lengths, length-front, get-front, front-none, front-all, front-shorter, front-longer, front-last, front-range, front-set_inside, front-set_behind, front-set_next, front-written, front-written_inside, front-written_behind, front-filled, front-grown, front-inserted, front-removed, length-inserted, length-removed, get-inserted_behind, get-removed_behind, width_some)
+pub ruleset fronts = (lengths, kept_lengths, length-front, get-front, front-none, front-all, front-shorter, front-longer, front-last, front-range, front-bits, front-number, front-set_inside, front-set_behind, front-set_next, front-written, front-written_inside, front-written_behind, front-filled, front-grown, front-inserted, front-removed, length-inserted, length-removed, get-inserted_behind, get-removed_behind, width_some)
 
 -- questions of `in_place` about a range: beside an edit, and after `fill`
 pub ruleset asked = (lengths, kept_lengths, in_range)

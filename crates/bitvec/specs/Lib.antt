@@ -1,10 +1,10 @@
 pub mod Arrays
-pub mod ChangesLaws
 pub mod ClosureLaws
 pub mod ComposedLaws
 pub mod Domains
 pub mod FoundLaws
 pub mod Laws
+pub mod ListNumbersLaws
 pub mod MatchLaws
 pub mod NthLaws
 pub mod NumberSidesLaws
@@ -42,6 +42,7 @@ pub use Rattle.bitvec_field.specs.DomainParts
 pub use Rattle.bitvec_field.specs.DomainPartsLaws
 pub use Rattle.bitvec_segments.specs.Integers
 pub use Rattle.bitvec_field.specs.IntegersLaws
+pub use Rattle.bitvec_in_place.specs.ChangesLaws
 pub use Rattle.bitvec_in_place.specs.Cursors
 pub use Rattle.bitvec_in_place.specs.FrontLaws
 pub use Rattle.bitvec_in_place.specs.Fronts
@@ -53,6 +54,7 @@ pub use Rattle.bitvec_in_place.specs.RangeBitsLaws
 pub use Rattle.bitvec_in_place.specs.Ranges
 pub use Rattle.bitvec_in_place.specs.RangesLaws
 pub use Rattle.bitvec_in_place.specs.Rooms
+pub use Rattle.bitvec_in_place.specs.Rows
 pub use Rattle.bitvec_base.specs.ListsLaws
 pub use Rattle.bitvec_base.specs.MemoryLaws
 pub use Rattle.bitvec_iter.specs.Left
@@ -74,6 +76,7 @@ pub use Rattle.bitvec_owned.specs.KeptBy
 pub use Rattle.bitvec_owned.specs.Owned
 pub use Rattle.bitvec_owned.specs.Retained
 pub use Rattle.bitvec_owned.specs.RetainedLaws
+pub use Rattle.bitvec_owned.specs.SequenceLaws
 pub use Rattle.bitvec_owned.specs.Writes as OwnedWrites
 pub use Rattle.bitvec_closures.specs.CoversLaws as SplitCoversLaws
 pub use Rattle.bitvec_closures.specs.Elements
@@ -92,6 +95,7 @@ pub use Rattle.bitvec_run.specs.WordRunsLaws
 pub use Rattle.bitvec_engine.specs.WordSteps
 pub use Rattle.bitvec_run_halves.specs.Sides
 pub use Rattle.bitvec_segments.specs.LoadLaws
+pub use Rattle.bitvec_segments.specs.NumberLaws
 pub use Rattle.bitvec_segments.specs.PlainLaws
 pub use Rattle.bitvec_segments.specs.Segments
 pub use Rattle.bitvec_segments.specs.StoreLaws

@@ -1,7 +1,7 @@
 -- Numbers from the end that is the order's own, `le` under `Lsb0` and `be` under `Msb0`: they have no seam at the edge of an element,
 -- so where a list stands counts for nothing. Of views and of arrays they are those of one segment.
-use Rattle.std.specs.Prelude.{◌≡◌, ℕ, ◌-◌, ◌<◌, ◌≤◌, Bool, List, length, refl, slice_range}
-use Rattle.std.proofs.Common.{◌∙◌, ap, inl}
+use Rattle.std.specs.Prelude.{◌≡◌, ℕ, ◌+◌, ◌-◌, ◌<◌, ◌≤◌, Bool, List, length, refl, slice_range}
+use Rattle.std.proofs.Common.{◌∙◌, ap, arith, inl}
 use Rattle.bitvec_base.specs.Window.{write_at}
 use Rattle.bitvec_base.specs.WriteLaws.{length-slice_range}
 use Rattle.bitvec_in_place.specs.NumberPartsLaws.{stored-joined}
@@ -26,3 +26,9 @@ unfolding numbered
 numbered-seamless high b list from to v some inside =
     let long = length-slice_range list from to inside in
     ap (write_at list from) (stored-seamless high b from v (slice_range list from to) some ∙ ap (λ (n : ℕ). segment_bits high n v) long)
+
+-- of the n bits from a place on, as a cursor puts them
+pub numbered-put : (high : Bool) (b : ℕ) (list : List Bool) (from n v : ℕ) → 0 < b → from + n ≤ length list → numbered high high b list from (from + n) v ≡ write_at list from (segment_bits high n v)
+numbered-put high b list from n v some inside =
+    let long : from + n - from ≡ n = omega arith in
+    numbered-seamless high b list from (from + n) v some inside ∙ ap (λ (k : ℕ). write_at list from (segment_bits high k v)) long

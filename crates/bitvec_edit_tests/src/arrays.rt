@@ -38,11 +38,7 @@ fn an_array_is_as_its_list(rt: HostRuntime) {
     assert!(rt; walked(&bits) == 0xA403);
     assert!(rt; is_copied(rt.alloc(), &bits));
     assert!(rt; prints(rt.alloc(), &bits, TEXT) && shows(rt.alloc(), &bits, TEXT));
-}
-
-#[test]
-fn what_an_array_lends_edits_it(rt: HostRuntime) {
-    let mut bits = Bits::new(ELEMENTS);
+    let mut bits = bits;
     bits.as_raw_mut_slice().reverse();
     assert!(rt; bits.as_raw_slice() == [0x03, 0xA4].as_slice());
     bits.as_mut_bitslice().invert();

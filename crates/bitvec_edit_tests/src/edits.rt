@@ -19,19 +19,6 @@ fn fill_range<O: SliceOrder>(elements: &mut [u8; 3], from: usize, to: usize) -> 
     }
 }
 
-#[test]
-fn fill_leaves_the_neighbours(rt: HostRuntime) {
-    let mut elements = [0u8, 0, 0];
-    assert!(rt; fill_range::<Lsb0>(&mut elements, 3, 21));
-    assert!(rt; elements == [0xF8, 0xFF, 0x1F]);
-    let mut elements = [0u8, 0, 0];
-    assert!(rt; fill_range::<Msb0>(&mut elements, 3, 21));
-    assert!(rt; elements == [0x1F, 0xFF, 0xF8]);
-    let mut elements = [0u8, 0, 0];
-    assert!(rt; fill_range::<HiLo>(&mut elements, 0, 3));
-    assert!(rt; elements == [0x70, 0, 0]);
-}
-
 /// Flips the bits 16 to 79, and of these flips 24 to 39 again.
 fn invert_twice(elements: &mut [u32; 3]) {
     let view = BitSliceMut::<u32, Lsb0>::from_slice_mut(elements).into_part(16..80);
@@ -39,15 +26,6 @@ fn invert_twice(elements: &mut [u32; 3]) {
     if let Some(middle) = part.get_mut(24..40) {
         let _middle = !middle;
     }
-}
-
-#[test]
-fn bits_flipped_twice_are_as_before(rt: HostRuntime) {
-    let mut elements = [0u32; 3];
-    invert_twice(&mut elements);
-    assert!(rt; elements == [0xFFFF_0000, 0xFF00_00FF, 0x0000_FFFF]);
-    let view = BitSlice::<u32, Lsb0>::from_slice(&elements);
-    assert!(rt; (view.count_ones(), view.count_zeros()) == (48, 48));
 }
 
 /// Fills the bits before an index, flips the second byte, and then sets its first bit.
@@ -65,13 +43,6 @@ fn edit_parts(elements: &mut [u8; 2], index: usize)
     }
 }
 
-#[test]
-fn a_part_for_writing_leaves_the_others(rt: HostRuntime) {
-    let mut elements = [0x00u8, 0x80];
-    edit_parts(&mut elements, 10);
-    assert!(rt; elements == [0xFF, 0x7D]);
-}
-
 /// Edits the first five bits, by one call a number.
 fn edit_five(bytes: &mut [u8; 1], kind: usize) {
     let mut five = BitSliceMut::<u8, Lsb0>::from_slice_mut(bytes).into_part(0..5);
@@ -83,7 +54,10 @@ fn edit_five(bytes: &mut [u8; 1], kind: usize) {
         4 => five.part_mut(1..4).reverse(),
         5 => five.shift_start(5),
         6 => five.fill(true),
-        7 => five.fill_with(|index| index % 2 == 0),
+        7 => {
+            five.fill_with(|index| index % 2 == 0);
+            five.for_each(|index, bit| bit != (index == 0));
+        }
         8 => five.copy_within(1..5, 0),
         9 => five.shift_end(1),
         10 => five.swap_within(0..2, 3),
@@ -110,7 +84,7 @@ fn five_bits_are_edited(rt: HostRuntime) {
         (4, 0xE3, 0xE9),
         (5, 0xF2, 0xE0),
         (6, 0xE0, 0xFF),
-        (7, 0xFF, 0xF5),
+        (7, 0xFF, 0xF4),
         (8, 0xF5, 0xFA),
         (9, 0xFA, 0xF4),
         (10, 0xFA, 0xF3),
@@ -124,4 +98,21 @@ fn five_bits_are_edited(rt: HostRuntime) {
         edit_five(&mut bytes, kind);
         assert!(rt; bytes == [after], "{kind}");
     }
+}
+
+#[test]
+fn edits_of_parts_leave_the_neighbours(rt: HostRuntime) {
+    let mut filled = [[0u8; 3]; 3];
+    assert!(rt; fill_range::<Lsb0>(&mut filled[0], 3, 21));
+    assert!(rt; fill_range::<Msb0>(&mut filled[1], 3, 21));
+    assert!(rt; fill_range::<HiLo>(&mut filled[2], 0, 3));
+    assert!(rt; filled == [[0xF8, 0xFF, 0x1F], [0x1F, 0xFF, 0xF8], [0x70, 0, 0]]);
+    let mut elements = [0u32; 3];
+    invert_twice(&mut elements);
+    assert!(rt; elements == [0xFFFF_0000, 0xFF00_00FF, 0x0000_FFFF]);
+    let view = BitSlice::<u32, Lsb0>::from_slice(&elements);
+    assert!(rt; (view.count_ones(), view.count_zeros()) == (48, 48));
+    let mut edited = [0x00u8, 0x80];
+    edit_parts(&mut edited, 10);
+    assert!(rt; edited == [0xFF, 0x7D]);
 }

@@ -76,8 +76,10 @@ fn call_at_end<T: BitStore, O: SliceOrder>(
             list_some_bits(list, &words)?;
         }
         6 => {
-            bits.extend(list.clone()?)?;
             let again = list.clone()?;
+            bits.extend_from_bools(again.as_slice())?;
+            bits.extend(list.clone()?)?;
+            list.extend_from_slice(again.as_slice())?;
             list.extend_from_slice(again.as_slice())?;
             bits.truncate(300);
             list.truncate(300);
@@ -239,11 +241,16 @@ fn are_made(alloc: Global) -> Result<bool, AllocError> {
     )?;
     let elements = vec![in alloc; 0xD0, 0xE0, 0xFF]?;
     let part = Bytes::from_elements(elements, 4, 5);
+    let mut numbers = Bytes::repeat(alloc, true, 9)?;
+    numbers.extend_highest_first(0xFFFD, 4)?;
+    numbers.extend_lowest_first(0xFFFD, 4)?;
     Ok(
         made.as_raw_slice() == [0x0D, 0x01].as_slice()
             && made == copy
             && part.as_raw_slice() == [0xD0, 0xE0].as_slice()
-            && part.len() == 5,
+            && part.len() == 5
+            && numbers.as_raw_slice() == [0xFF, 0xB7, 0x01].as_slice()
+            && numbers.len() == 17,
     )
 }
 

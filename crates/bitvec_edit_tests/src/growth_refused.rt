@@ -1,4 +1,4 @@
-//! Calls that ask for memory where it is refused: the bits stay, and a call that is granted it does its work.
+//! Calls that ask for memory where it is refused: the sequence stays, and a call that is granted it does its work.
 
 use bitvec_base::Lsb0;
 use bitvec_owned::BitVec;
@@ -11,14 +11,20 @@ type Refused<'a> = BitVec<u8, Lsb0, &'a Refusing<Global>>;
 const FULL: [u8; 2] = [0xB4, 0x6E];
 
 /// How many calls are tried.
-const CALLS: usize = 9;
+const CALLS: usize = 11;
+
+/// Moves a one from a sequence of another allocator. Where it is refused, the one has to stay there.
+fn append_one(alloc: Global, bits: &mut Refused<'_>) -> Result<(), AllocError> {
+    let mut other = BitVec::<u8, Lsb0, Global>::from_bools(alloc, &[true])?;
+    let appended = bits.append(&mut other);
+    if appended.is_err() && other.as_raw_slice() != [1].as_slice() {
+        return Ok(());
+    }
+    appended
+}
 
 /// The call of a number, on a sequence that has no room for more.
-fn call<'a>(
-    refusing: &'a Refusing<Global>,
-    bits: &mut Refused<'a>,
-    number: usize,
-) -> Result<(), AllocError> {
+fn call(alloc: Global, bits: &mut Refused<'_>, number: usize) -> Result<(), AllocError> {
     let view = BitSlice::<u8, Lsb0>::from_slice(&FULL).into_part(3..11);
     if bits.len() < 9 {
         return Ok(());
@@ -38,12 +44,9 @@ fn call<'a>(
             let _part = bits.drain(4..9)?;
             Ok(())
         }
-        _ => {
-            let mut other = Refused::from_elements(Vec::new(refusing), 0, 0);
-            bits.append(&mut other)?;
-            other.push(true)?;
-            bits.append(&mut other)
-        }
+        8 => bits.extend_from_bools(&[true, false]),
+        9 => bits.extend_highest_first(2, 2),
+        _ => append_one(alloc, bits),
     }
 }
 
@@ -53,11 +56,11 @@ fn stays_or_does(alloc: Global, number: usize) -> Result<bool, AllocError> {
     let refusing = Refusing::new(alloc, 1);
     let mut bits = Refused::with_capacity_in(&refusing, 16)?;
     bits.extend_from_bitslice(BitSlice::<u8, Lsb0>::from_slice(&FULL))?;
-    let is_refused = call(&refusing, &mut bits, number) == Err(AllocError);
+    let is_refused = call(alloc, &mut bits, number) == Err(AllocError);
     let stays = bits.as_raw_slice() == FULL.as_slice() && bits.len() == 16;
     let granting = Refusing::new(alloc, u64::MAX);
     let mut granted = Refused::from_bitslice(&granting, BitSlice::<u8, Lsb0>::from_slice(&FULL))?;
-    let is_done = call(&granting, &mut granted, number) == Ok(());
+    let is_done = call(alloc, &mut granted, number) == Ok(());
     Ok(is_refused && stays && is_done)
 }
 
@@ -85,18 +88,21 @@ fn a_refused_extend_has_added_the_first_bits(rt: HostRuntime) {
     assert!(rt; fills_its_memory(rt.alloc()) == Ok(true));
 }
 
-/// Whether nothing is made where memory is refused.
-fn makes_nothing(none: &Refusing<Global>) -> [bool; 3] {
+/// Whether nothing is made where memory is refused, but for sequences of no bits.
+fn makes_nothing(none: &Refusing<Global>) -> [bool; 6] {
     [
         Refused::with_capacity_in(none, 1).is_err(),
         Refused::from_bools(none, &[true]).is_err(),
         Refused::from_bitslice(none, BitSlice::<u8, Lsb0>::from_slice(&FULL)).is_err(),
+        Refused::repeat(none, true, 1).is_err(),
+        Refused::from_bools(none, &[]).is_ok(),
+        Refused::repeat(none, true, 0).is_ok(),
     ]
 }
 
 #[test]
 fn refused_sequences_are_not_made(rt: HostRuntime) {
-    assert!(rt; makes_nothing(&Refusing::new(rt.alloc(), 0)) == [true; 3]);
+    assert!(rt; makes_nothing(&Refusing::new(rt.alloc(), 0)) == [true; 6]);
 }
 
 /// Whether more bits than `MAX_BITS` are refused, with no request.

@@ -14,9 +14,6 @@ mod edits;
 mod growing;
 #[cfg(test)]
 mod growth_refused;
-pub mod limits;
-#[cfg(test)]
-mod number_laws;
 #[cfg(test)]
 mod numbers;
 #[cfg(test)]

@@ -1,7 +1,6 @@
-//! Numbers in views and in their chunks: worked rows, and what a load and a store come to together.
+//! Numbers in views and in their chunks.
 ghost use Rattle.std.specs.Prelude.{◌≤◌};
 
-use crate::number_laws::{loaded_then_stored_be, loaded_then_stored_le, stored_then_loaded_le};
 use bitvec_base::{Lsb0, Msb0};
 use bitvec_field::{BitField, BitFieldMut, Integral};
 use bitvec_iter::PieceCallsMut;
@@ -38,20 +37,11 @@ fn a_number_is_read_from_either_end(rt: HostRuntime) {
 fn store_negative(bytes: &mut [u8; 2], le: bool) -> i8 {
     let mut part = BitSliceMut::<u8, Msb0>::from_slice_mut(bytes).into_part(6..10);
     if le {
-        return stored_then_loaded_le::<u8, Msb0, i8>(&mut part, -3);
+        part.store_le::<i8>(-3);
+        return part.load_le::<i8>();
     }
     part.store_be::<i8>(-3);
     part.load_be::<i8>()
-}
-
-/// Loads a number from either end and stores it.
-fn load_and_store(bytes: &mut [u8; 2]) {
-    {
-        let mut view = BitSliceMut::<u8, Lsb0>::from_slice_mut(bytes);
-        loaded_then_stored_le::<u8, Lsb0>(&mut view);
-    }
-    let mut view = BitSliceMut::<u8, Lsb0>::from_slice_mut(bytes);
-    loaded_then_stored_be::<u8, Lsb0>(&mut view);
 }
 
 #[test]
@@ -60,13 +50,6 @@ fn a_number_comes_back(rt: HostRuntime) {
         let mut elements = [0u8, 0];
         assert!(rt; (store_negative(&mut elements, le), elements) == (-3, bytes));
     }
-    let mut elements = [0x23, 0x45];
-    load_and_store(&mut elements);
-    assert!(rt; elements == [0x23, 0x45]);
-}
-
-#[test]
-fn load_and_store_are_the_lower_end_first(rt: HostRuntime) {
     let mut elements = [0u16, 0];
     let mut view = BitSliceMut::<u16, Lsb0>::from_slice_mut(&mut elements);
     view.store::<u32>(0x0123_4567);
@@ -80,7 +63,8 @@ fn through_seven_bits<I: Integral>(value: I) -> I
 {
     let mut elements = [0u8; 2];
     let mut part = BitSliceMut::<u8, Lsb0>::from_slice_mut(&mut elements).into_part(7..14);
-    stored_then_loaded_le::<u8, Lsb0, I>(&mut part, value)
+    part.store_le::<I>(value);
+    part.load_le::<I>()
 }
 
 #[test]

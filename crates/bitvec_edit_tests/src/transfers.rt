@@ -29,20 +29,6 @@ fn copy_five(bytes: &mut [u8; 1], source: &[u8; 1]) {
     }
 }
 
-#[test]
-fn exchanges_and_copies_leave_the_neighbours(rt: HostRuntime) {
-    let mut pair = [0xFFu8, 0];
-    let mut others = [0u8, 0];
-    swap_seven(&mut pair, &mut others);
-    assert!(rt; [pair, others] == [[0x07, 0], [0x1F, 0]]);
-    let mut left = [0xF6u8];
-    let mut right = [0x91u8];
-    swap_and_copy_four(&mut left, &mut right);
-    let mut copied = [0x41u8];
-    copy_five(&mut copied, &[0xAF]);
-    assert!(rt; [left, right, copied] == [[0xF3], [0x61], [0x6B]]);
-}
-
 /// What becomes of the first five bits by 0, 1 and 1, 0 on the right of the operators.
 fn combine(bytes: &mut [u8; 1]) {
     let mut part = BitSliceMut::<u8, Lsb0>::from_slice_mut(bytes).into_part(0..5);
@@ -59,15 +45,6 @@ fn combine_by_name(bytes: &mut [u8; 1]) {
     part.and_bits(bits.into_part(0..2));
     part.or_bits(bits.into_part(1..3));
     part.xor_bits(bits.into_part(0..2));
-}
-
-#[test]
-fn the_right_side_is_extended_by_zeros(rt: HostRuntime) {
-    let mut bytes = [0xFF];
-    combine(&mut bytes);
-    let mut others = [0xFF];
-    combine_by_name(&mut others);
-    assert!(rt; [bytes, others] == [[0xE1], [0xE1]]);
 }
 
 /// Copies the bits 16 to `16 + len` of the one to those from 8 on of the other, and tells whether they are the same then.
@@ -104,4 +81,19 @@ fn whole_elements_go_as_they_are(rt: HostRuntime) {
                 0x40, 0x44, 0x45, 0x46, 0x47, 0x48, 0x49, 0x4A, 0x4B, 0, 0, 0x40
             ]
     );
+}
+
+#[test]
+fn bits_of_other_views_leave_the_neighbours(rt: HostRuntime) {
+    let (mut pair, mut others) = ([0xFFu8, 0], [0u8, 0]);
+    swap_seven(&mut pair, &mut others);
+    assert!(rt; [pair, others] == [[0x07, 0], [0x1F, 0]]);
+    let (mut left, mut right, mut copied) = ([0xF6u8], [0x91u8], [0x41u8]);
+    swap_and_copy_four(&mut left, &mut right);
+    copy_five(&mut copied, &[0xAF]);
+    assert!(rt; [left, right, copied] == [[0xF3], [0x61], [0x6B]]);
+    let (mut combined, mut by_name) = ([0xFF], [0xFF]);
+    combine(&mut combined);
+    combine_by_name(&mut by_name);
+    assert!(rt; [combined, by_name] == [[0xE1]; 2]);
 }

@@ -1,6 +1,5 @@
 //! Walks over bits with the adapters of std.
 ghost use Rattle.std.specs.Prelude.{◌≡◌, ◌+◌, ◌-◌, ◌%◌, ◌<◌, ◌==◌, IfOk, count_by, min, reverse};
-ghost use Rattle.std.specs.List.{enumerate_from};
 ghost use Rattle.bitvec.specs.Views.{seen};
 
 use bitvec::index::Window;
@@ -22,36 +21,6 @@ pub fn backwards<T: BitStore, O: BitOrder>(
     ensures { IfOk result (λ bools. bools.items ≡ reverse (seen bits.entry).bits) }
 {
     bits.iter().by_vals().rev().collect(alloc)
-}
-
-/// The bits with their indices.
-pub fn numbered<T: BitStore, O: BitOrder>(
-    alloc: Global,
-    bits: BitSlice<'_, T, O>,
-) -> Result<Vec<(usize, bool)>, AllocError>
-    ensures { IfOk result (λ places. places.items ≡ enumerate_from 0 (seen bits.entry).bits) }
-{
-    bits.iter().by_vals().enumerate().collect(alloc)
-}
-
-/// At which index of its element the second bit stands: where the walk over the bits is after its first call.
-pub fn phase_behind_first<T: BitStore, O: BitOrder>(bits: BitSlice<'_, T, O>) -> usize
-    requires { 0 < (seen bits).window.len }
-    ensures { result ≡ ((seen bits.entry).window.start + 1) % T.BITS }
-{
-    let mut walk = bits.iter();
-    let _first = walk.next();
-    walk.as_bitslice().window().start
-}
-
-/// The place of the bits before the last, after a call from the back.
-pub fn window_before_last<T: BitStore, O: BitOrder>(bits: BitSlice<'_, T, O>) -> Window
-    ensures start { result.start ≡ (seen bits.entry).window.start % T.BITS }
-    ensures len { result.len ≡ (seen bits.entry).window.len - 1 }
-{
-    let mut walk = bits.iter();
-    let _last = walk.next_back();
-    walk.as_bitslice().window()
 }
 
 /// The place of the bits behind one that has so many before it.
@@ -101,28 +70,22 @@ fn is_backwards(alloc: Global, bits: BitSlice<'_, u8, Msb0>, wanted: &[bool]) ->
     }
 }
 
-/// How many bits are 1, by a loop over chunks of three.
-fn ones_by_threes(bits: BitSlice<'_, u8, Msb0>) -> usize {
-    ones_by_chunks(bits, 3)
-}
-
 #[test]
-fn callers_count_bits(rt: HostRuntime) {
+fn callers_walk_over_bits(rt: HostRuntime) {
     let view = BitSlice::<u8, Msb0>::from_slice(&[0x17]);
-    let ones = [ones_by_loop(view), ones_by_threes(view), mixed_pairs(view)];
+    let ones = [
+        ones_by_loop(view),
+        ones_by_chunks(view, 3),
+        mixed_pairs(view),
+    ];
     assert!(rt; (ones, parity(view)) == ([4, 4, 3], false));
-}
-
-#[test]
-fn callers_place_bits(rt: HostRuntime) {
-    let six = BitSlice::<u8, Msb0>::from_slice(&[0x17]).into_part(2..8);
-    let (before, behind) = (window_before_last(six), window_behind(six, 3));
-    assert!(rt; [phase_behind_first(six), before.start, behind.start] == [3, 2, 6]);
-    assert!(rt; [before.len, behind.len] == [5, 2]);
-}
-
-#[test]
-fn callers_list_bits(rt: HostRuntime) {
-    let four = BitSlice::<u8, Msb0>::from_slice(&[0x17]).into_part(0..4);
-    assert!(rt; is_backwards(rt.alloc(), four, &[true, false, false, false]));
+    let behind = window_behind(view.into_part(2..8), 3);
+    assert!(rt; [behind.start, behind.len] == [6, 2]);
+    assert!(rt;
+        is_backwards(
+            rt.alloc(),
+            view.into_part(0..4),
+            &[true, false, false, false]
+        )
+    );
 }

@@ -1,4 +1,6 @@
 //! What a caller knows of bits that a closure answered, where the closure may always be called.
+ghost use Rattle.std.specs.Prelude.{◌≡◌, ◌%◌, ◌==◌, map};
+ghost use Rattle.std.specs.List.{range_with_len};
 ghost use Rattle.bitvec.specs.Asked.{FillsWith, RefillsWith};
 ghost use Rattle.bitvec.specs.LentBits.{WritesLeft, bit_walk_of, bits_in_place, bits_to_come, past_bits};
 ghost use Rattle.bitvec.specs.Views.{seen_mut};
@@ -51,10 +53,18 @@ pub fn refill_behind<T: BitStore, O: BitOrder, F: FnMut(usize, bool) -> bool>(
     bits.for_each_bit_mut(f);
 }
 
-/// Fills five bits with those whose index is even, and flips the first of them.
-fn fill_even(byte: &mut [u8; 1]) {
+/// Makes the bits ones at even indices, and zeros at odd ones.
+pub fn fill_even<T: BitStore, O: SliceOrder>(view: &mut BitSliceMut<'_, T, O>)
+    ensures { (seen_mut view.new).bits ≡ map (λ index. index % 2 == 0) (range_with_len 0 (seen_mut view.old).window.len) }
+{
+    view.fill_with(|index| index % 2 == 0);
+}
+
+/// Sets one of five bits, then those whose index is even, and flips the first of them.
+fn fill_five(byte: &mut [u8; 1]) {
     let mut five = BitSliceMut::<u8, Lsb0>::from_slice_mut(byte).into_part(0..5);
-    filled_by(&mut five, |index| index % 2 == 0);
+    filled_by(&mut five, |index| index == 3);
+    fill_even(&mut five);
     refilled_by(&mut five, |index, bit| bit != (index == 0));
 }
 
@@ -67,7 +77,7 @@ fn clear_behind(view: &mut BitSliceMut<'_, u8, Lsb0>) {
 #[test]
 fn bits_are_those_of_a_closure(rt: HostRuntime) {
     let mut byte = [0xE0u8];
-    fill_even(&mut byte);
+    fill_five(&mut byte);
     assert!(rt; byte == [0xF4]);
     {
         let mut view = BitSliceMut::from_slice_mut(&mut byte);

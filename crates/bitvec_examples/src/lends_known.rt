@@ -1,6 +1,6 @@
 //! What a caller knows of a view and of a walk once a bit or a piece was lent.
 ghost use Rattle.std.specs.Prelude.{◌≡◌, ◌+◌, ◌-◌, ◌<◌, ◌≤◌, length};
-ghost use Rattle.bitvec.specs.Cutting.{chunk_count, whole_count};
+ghost use Rattle.bitvec.specs.Cutting.{chunk_count};
 ghost use Rattle.bitvec.specs.Kept.{KeepsOutside};
 ghost use Rattle.bitvec.specs.Touched.{end_touched, first_touched};
 ghost use Rattle.bitvec.specs.Views.{name_of, seen_mut};
@@ -50,41 +50,6 @@ pub fn clear_first<T: BitStore, O: SliceOrder>(
     chunks.len()
 }
 
-/// Clears the last chunk, if there is one, and gives how many are left then.
-pub fn clear_last_chunk<T: BitStore, O: SliceOrder>(
-    view: &mut BitSliceMut<'_, T, O>,
-    size: usize,
-) -> usize
-    requires { 0 < size }
-    ensures { result ≡ chunk_count size (seen_mut view.old).window.len - 1 }
-{
-    let mut chunks = view.chunks_mut(size);
-    if chunks.is_empty() {
-        return 0;
-    }
-    {
-        let mut last = chunks.take_back_mut();
-        last.fill(false);
-    }
-    chunks.len()
-}
-
-/// Clears the bits that no whole chunk has, and gives how many chunks are left then: all.
-pub fn clear_remainder<T: BitStore, O: SliceOrder>(
-    view: &mut BitSliceMut<'_, T, O>,
-    size: usize,
-) -> usize
-    requires { 0 < size }
-    ensures { result ≡ whole_count size (seen_mut view.old).window.len }
-{
-    let mut chunks = view.chunks_exact_mut(size);
-    {
-        let mut rest = chunks.take_remainder();
-        rest.fill(false);
-    }
-    chunks.len()
-}
-
 /// How many chunks are left, once `front` were passed from the front, and `back` from the back.
 pub fn left_between<T: BitStore, O: SliceOrder>(
     view: &mut BitSliceMut<'_, T, O>,
@@ -116,10 +81,10 @@ pub fn flip_first<T: BitStore, O: SliceOrder>(
 }
 
 #[test]
-fn a_bit_and_the_last_chunk_are_lent(rt: HostRuntime) {
+fn a_bit_and_the_first_chunk_are_lent(rt: HostRuntime) {
     let mut elements = [0xFFu8, 0xF7];
     let mut view = BitSliceMut::<u8, Lsb0>::from_slice_mut(&mut elements);
     set_in_place(&mut view, 11);
-    assert!(rt; clear_last_chunk(&mut view, 3) == 5);
-    assert!(rt; elements == [0xFF, 0x7F]);
+    assert!(rt; clear_first(&mut view, 3) == 5);
+    assert!(rt; elements == [0xF8, 0xFF]);
 }

@@ -37,18 +37,3 @@ pub fn fill_and_flip<T: BitStore, O: SliceOrder>(
         None => false,
     }
 }
-
-/// [`fill_and_flip`] on the bits of two bytes.
-fn fill_and_flip_bytes(bytes: &mut [u8; 2], mid: usize) -> bool
-    requires { mid ≤ 16 }
-{
-    let mut view = BitSliceMut::<u8, Lsb0>::from_slice_mut(bytes);
-    fill_and_flip(&mut view, mid)
-}
-
-#[test]
-fn parts_that_share_no_byte_are_written(rt: HostRuntime) {
-    let mut bytes = [0x12u8, 0x34];
-    assert!(rt; !fill_and_flip_bytes(&mut bytes, 3) && bytes == [0x12, 0x34]);
-    assert!(rt; fill_and_flip_bytes(&mut bytes, 8) && bytes == [0xFF, 0xCB]);
-}

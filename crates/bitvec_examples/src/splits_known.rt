@@ -4,7 +4,6 @@ ghost use Rattle.bitvec.specs.Kept.{KeepsOutside};
 ghost use Rattle.bitvec.specs.SplitFoundLaws.{end_of_found, first_of_found};
 ghost use Rattle.bitvec.specs.SplitLent.{MayGoOnIn, SplitNextIn, piece_if};
 ghost use Rattle.bitvec.specs.SplitLentViews.{found_in, left_in};
-ghost use Rattle.bitvec.specs.Views.{seen_mut};
 
 use bitvec::prelude::*;
 use bitvec::slice::SplitMut;
@@ -27,17 +26,4 @@ pub fn clear_next<T: BitStore, O: SliceOrder, P: FnMut(usize, &bool) -> bool>(
         }
     }
     found
-}
-
-/// Clears the first piece between zeros, and says whether nothing is left then: the view stays where
-/// it is.
-pub fn clear_first_piece<T: BitStore, O: SliceOrder>(view: &mut BitSliceMut<'_, T, O>) -> bool
-    ensures { (seen_mut view.new).window ≡ (seen_mut view.old).window }
-{
-    let mut pieces = view.split_mut(|_, bit| !*bit);
-    if pieces.advance() {
-        let mut piece = pieces.piece_mut();
-        piece.fill(false);
-    }
-    pieces.is_finished()
 }

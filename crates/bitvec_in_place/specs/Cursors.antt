@@ -4,17 +4,22 @@ use Rattle.std.specs.Borrow.{GName}
 use Rattle.bitvec_store.specs.declared.store.BitStore.{Ghosts as Store}
 use Rattle.bitvec_base.specs.declared.order.BitOrder.{Ghosts as Order}
 use Rattle.bitvec_base.specs.Memory.{memory_bits}
+use Rattle.bitvec_slice.specs.Views.{seen}
 use Rattle.bitvec_in_place.specs.declared.reader.BitReader.{BitReader}
 use Rattle.bitvec_in_place.specs.declared.writer.BitWriter.{BitWriter}
 
--- the bits of the elements, and how many of them were passed
+-- the bits that are read or written, and how many of them were passed
 pub record Cursor : Type 0 where
   pub bits : List Bool
   pub position : ℕ
 
 module _ {T O : Type 0} {t : Store T} {o : Order O} where
   abbrev pub reading : BitReader T O t o → Cursor
-  reading reader = record { bits = memory_bits t.BITS o.at (map t.value reader.elements.now); position = reader.position }
+  reading reader = record { bits = (seen reader.view).bits; position = reader.position }
+
+  -- the index in the first element at which the bits that are read begin
+  abbrev pub start_of : BitReader T O t o → ℕ
+  start_of reader = (seen reader.view).window.start
 
   abbrev pub writing : BitWriter T O t o → Cursor
   writing writer = record { bits = memory_bits t.BITS o.at (map t.value writer.elements.now); position = writer.position }

@@ -5,7 +5,7 @@ use Rattle.std.proofs.Common.{◌∙◌, ap, arith, rules, sym, ⊎_elim}
 use Rattle.std.proofs.Math.Seq.{take-add, take-set-lt}
 use Rattle.std.proofs.lemmas.Bool.{cases_eq}
 use Rattle.std.proofs.lemmas.Grind.{get_or-set_at, take-set_at}
-use Rattle.std.proofs.lemmas.List.{drop-drop, get_or-set_other, get_or-take, length-replicate, length-set, length-take-le, places, same_lists, take-take, take_all, take-append-le, take-set-le, take_more}
+use Rattle.std.proofs.lemmas.List.{drop-drop, drop-take, get_or-set_other, get_or-take, length-replicate, length-set, length-take-le, places, same_lists, take-take, take_all, take-append-le, take-set-le, take_more}
 use Rattle.std.proofs.lemmas.List.Edits.{length-insert, length-remove}
 use Rattle.std.proofs.lemmas.Slice.{between_from_start}
 use Rattle.bitvec_base.specs.Lists.{copied_within}
@@ -15,7 +15,8 @@ use Rattle.bitvec_base.specs.Window.{write_at}
 use Rattle.bitvec_base.specs.WriteLaws.{get-slice_range, get-write_at_above, get-write_at_below, get-write_at_inside, length-slice_range, length-write_at, take-written}
 use Rattle.bitvec_in_place.specs.Fronts.{front_bits}
 use Rattle.bitvec_in_place.specs.Inserted.{inserted, removed}
-use Rattle.bitvec_in_place.specs.Ranges.{filled}
+use Rattle.bitvec_in_place.specs.Ranges.{bits_in, filled, number_in}
+use Rattle.bitvec_segments.specs.Segments.{loaded}
 
 -- ---- of any list
 
@@ -106,6 +107,22 @@ front-last list n d inside = sym (take_more list n d inside)
 pub front-range : (list : List Bool) (n : ℕ) → slice_range list 0 n ≡ front_bits list n
 unfolding front_bits
 front-range list n = between_from_start list n
+
+-- ranges of them, and the numbers of these, so that one equation of fronts tells any number of fields
+range-in_front : (list : List Bool) (n a e : ℕ) → a ≤ e → e ≤ n → slice_range (take n list) a e ≡ slice_range list a e
+range-in_front list n a e order below =
+    let there : n ≡ a + (n - a) = omega arith in
+    ap (λ (m : ℕ). take (e - a) (drop a (take m list))) there
+    ∙ ap (take (e - a)) (drop-take a (n - a) list)
+    ∙ take-take (e - a) (n - a) (drop a list) (omega arith)
+
+pub front-bits : (list : List Bool) (n a e : ℕ) → a ≤ e → e ≤ n → bits_in (front_bits list n) a e ≡ bits_in list a e
+unfolding front_bits bits_in
+front-bits list n a e order below = range-in_front list n a e order below
+
+pub front-number : (big high : Bool) (b : ℕ) (list : List Bool) (n a e : ℕ) → a ≤ e → e ≤ n → number_in big high b (front_bits list n) a e ≡ number_in big high b list a e
+unfolding front_bits number_in
+front-number big high b list n a e order below = ap (loaded big high b a) (range-in_front list n a e order below)
 
 -- ---- after an edit
 

@@ -7,11 +7,12 @@ use Rattle.bitvec_within.specs.CombinedLaws.{get-combined_within_above, get-comb
 use Rattle.bitvec_base.specs.ListsLaws.{get-combined, length-combined}
 use Rattle.bitvec_base.specs.MemoryLaws.{length-memory_bits}
 use Rattle.bitvec_base.specs.WriteLaws.{get-write_at_above, get-write_at_below, get-write_at_inside, length-write_at}
+use Rattle.bitvec_in_place.specs.ChangesLaws.{bits-unchanged, changes-combined, changes-copied, changes-filled, changes-flipped, changes-joined, changes-moved_end, changes-moved_start, changes-none, changes-numbered, changes-reversed, changes-rotated_left, changes-rotated_right, changes-set, changes-then, changes-written, number-unchanged}
 use Rattle.bitvec_in_place.specs.RangesLaws.{get-filled_inside, get-filled_outside, get-flipped_inside, get-flipped_outside, get-joined_inside, get-joined_outside, get-moved_end_kept, get-moved_end_outside, get-moved_end_zero, get-moved_start_kept, get-moved_start_outside, get-moved_start_zero, get-numbered_outside, get-reversed_inside, get-reversed_outside, get-rotated_left_far, get-rotated_left_near, get-rotated_left_outside, get-rotated_right_far, get-rotated_right_near, get-rotated_right_outside, length-filled, length-flipped, length-joined, length-moved_end, length-moved_start, length-numbered, length-reversed, length-rotated_left, length-rotated_right, number-beside, number-filled, number-flipped, number-joined, number-moved_end, number-moved_start, number-reversed, number-rotated_left, number-rotated_right}
 use Rattle.bitvec_within.specs.SwapsLaws.{get-swapped_back, get-swapped_front, get-swapped_outside, length-swapped}
 use Rattle.bitvec_in_place.specs.MovedLaws.{length-bits_of, get-copied_inside, get-copied_outside, get-flip, get-rotated_left_early, get-rotated_left_late, get-rotated_right_early, get-rotated_right_late, get-shifted_end_kept, get-shifted_end_zero, get-shifted_start_kept, get-shifted_start_zero, get-swap_first, get-swap_other, get-swap_second, get-zero, get-zeros}
 use Rattle.bitvec_in_place.specs.NumberPartsLaws.{get-numbered_inside, number-cleared, number-combined, number-copied_to, number-filled_up, number-other_end, number-part, number-swapped, number-swapped_from, number-swapped_to}
-use Rattle.bitvec_in_place.specs.RangeBitsLaws.{all-in_filled, any-in_cleared, bits-combined, bits-copied, bits-filled, bits-flipped, bits-joined, bits-moved_end, bits-moved_start, bits-numbered, bits-reversed, bits-rotated_left, bits-rotated_right, bits-set, bits-swap, bits-swapped, bits-written, first-in_filled, first-in_other, get-bits_in, last-in_other, length-bits_in, ones-in_cleared, ones-in_filled, zeros-in_cleared, zeros-in_filled}
+use Rattle.bitvec_in_place.specs.RangeBitsLaws.{all-in_filled, any-in_cleared, bits-combined, bits-copied, bits-filled, bits-flipped, bits-joined, bits-moved_end, bits-moved_start, bits-numbered, bits-reversed, bits-rotated_left, bits-rotated_right, bits-set, bits-swap, bits-swapped, bits-written, bits-written_here, first-in_filled, first-in_other, get-bits_in, last-in_other, length-bits_in, ones-in_cleared, ones-in_filled, zeros-in_cleared, zeros-in_filled}
 use Rattle.bitvec_in_place.specs.NumbersLaws.{loaded-part_below, number-below, number-copied, number-numbered, number-set, number-stored, number-swap, number-written}
 
 -- edits keep lengths, those of whole lists and those of ranges; and the length of a memory's bits
@@ -31,3 +32,9 @@ pub ruleset parts = (number-part, number-other_end, number-cleared, number-fille
 
 -- the bits of a range, of which questions are asked: each, how many, beside an edit, and where it was filled
 pub ruleset asked = (length-bits_in, get-bits_in, bits-filled, bits-flipped, bits-reversed, bits-rotated_left, bits-rotated_right, bits-moved_start, bits-moved_end, bits-joined, bits-numbered, bits-set, bits-swap, bits-written, bits-copied, bits-swapped, bits-combined, ones-in_filled, ones-in_cleared, zeros-in_filled, zeros-in_cleared, first-in_filled, first-in_other, last-in_other, all-in_filled, any-in_cleared)
+
+-- an edit of a range changes no bit outside it
+pub ruleset changed = (changes-filled, changes-flipped, changes-reversed, changes-rotated_left, changes-rotated_right, changes-moved_start, changes-moved_end, changes-joined, changes-numbered, changes-written, changes-set, changes-copied, changes-combined)
+
+-- numbers, bits and lists that were put one behind the other: each where it stands, and beside the others
+pub ruleset put = (length-memory_bits, length-bits_of, length-set, length-write_at, length-numbered, length-bits_in, number-below, number-numbered, number-beside, number-set, number-written, number-unchanged, get_or-set_at, get_or-set_other, get-numbered_outside, get-write_at_below, get-write_at_above, bits-numbered, bits-set, bits-written, bits-written_here, bits-unchanged, changes-numbered, changes-set, changes-written, changes-none, changes-then)

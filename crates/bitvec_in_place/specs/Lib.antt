@@ -1,3 +1,4 @@
+pub mod ChangesLaws
 pub mod Cursors
 pub mod FrontLaws
 pub mod Fronts
@@ -10,3 +11,4 @@ pub mod RangeBitsLaws
 pub mod Ranges
 pub mod RangesLaws
 pub mod Rooms
+pub mod Rows

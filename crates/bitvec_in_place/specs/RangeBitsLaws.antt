@@ -1,5 +1,5 @@
 -- The bits of a range: how many there are, each of them, beside an edit, and in a range that was filled.
-use Rattle.std.specs.Prelude.{◌≡◌, ◌≢◌, ℕ, ◌+◌, ◌-◌, ◌<◌, ◌≤◌, ◌⊎◌, Bool, true, false, not, None, Some, List, count_by, length, reverse, replicate, slice_index_or, slice_set}
+use Rattle.std.specs.Prelude.{◌≡◌, ◌≢◌, ℕ, ◌+◌, ◌-◌, ◌<◌, ◌≤◌, ◌⊎◌, Bool, true, false, not, None, Some, List, count_by, length, reverse, replicate, slice_index_or, slice_range, slice_set, refl}
 use Rattle.std.specs.List.{list_all, list_any, swap}
 use Rattle.std.proofs.Common.{arith, sym, ◌∙◌, ap, ⊎_elim, inl, inr}
 use Rattle.std.proofs.lemmas.List.{get_or-replicate, get_or-set_other, length-replicate, length-set, same_lists}
@@ -9,7 +9,7 @@ use Rattle.bitvec_base.specs.CountedLaws.{ones-all, ones-none, zeros-all, zeros-
 use Rattle.bitvec_base.specs.FilledLaws.{all-filled, any-filled, first-filled, first-of_filled, last-filled}
 use Rattle.bitvec_base.specs.Lists.{copied_within, first_place, last_place, rotated_left, rotated_right, shifted_end, shifted_start}
 use Rattle.bitvec_base.specs.Window.{write_at}
-use Rattle.bitvec_base.specs.WriteLaws.{get-slice_range, length-slice_range, range-write_at_after, range-write_at_before}
+use Rattle.bitvec_base.specs.WriteLaws.{get-slice_range, length-slice_range, range-write_at, range-write_at_after, range-write_at_before}
 use Rattle.bitvec_within.specs.Combined.{combined_within}
 use Rattle.bitvec_within.specs.CombinedLaws.{get-combined_within_above, get-combined_within_below, length-combined_within}
 use Rattle.bitvec_within.specs.Swaps.{swapped_within}
@@ -25,6 +25,11 @@ length-bits_in list from to inside = length-slice_range list from to inside
 pub get-bits_in : (list : List Bool) (from to k : ℕ) (d : Bool) → from + k < to → slice_index_or (bits_in list from to) k d ≡ slice_index_or list (from + k) d
 unfolding bits_in
 get-bits_in list from to k d inside = get-slice_range list from to k d inside
+
+-- as a range of a list
+pub bits_in-range : (list : List Bool) (from to : ℕ) → bits_in list from to ≡ slice_range list from to
+unfolding bits_in
+bits_in-range list from to = refl
 
 -- ---- beside an edit
 
@@ -124,6 +129,11 @@ module _ (list : List Bool) (from to : ℕ) (a e : ℕ) where
       (λ k d low high. ⊎_elim
       (λ (before : e ≤ dest). get-combined_within_below f from to dest list k d order room (omega arith))
       (λ (after : dest + (to - from) ≤ a). get-combined_within_above f from to dest list k d order room (omega arith)) apart)
+
+-- of a list that was written there
+pub bits-written_here : (list : List Bool) (from to : ℕ) (new : List Bool) → to ≡ from + length new → to ≤ length list → bits_in (write_at list from new) from to ≡ new
+unfolding bits_in
+bits-written_here list from to new is inside = ap (λ (n : ℕ). slice_range (write_at list from new) from n) is ∙ range-write_at list from new (omega arith)
 
 -- ---- in a range that was filled
 

@@ -7,6 +7,7 @@ ghost use Rattle.bitvec_base.specs.Memory.{memory_bits};
 ghost use Rattle.bitvec_in_place.specs.Ranges.{HasBits};
 
 use crate::spans::whole_in;
+use bitvec_base::BitOrder;
 use bitvec_domain::{replace_in, set_in, swap_in};
 use bitvec_engine::SliceOrder;
 use bitvec_slice::BitSlice;
@@ -31,7 +32,7 @@ pub fn get<T: BitStore, O: SliceOrder>(elements: &[T], index: usize) -> bool
 /// let mut bytes = [0u8; 8];
 /// in_place::set::<u8, Lsb0>(&mut bytes, 3, true);
 /// ```
-pub fn set<T: BitStore, O: SliceOrder>(elements: &mut [T], index: usize, bit: bool)
+pub fn set<T: BitStore, O: BitOrder>(elements: &mut [T], index: usize, bit: bool)
     requires range { HasBits T.BITS (length elements.old) index (index + 1) }
     ensures bits { memory_bits T.BITS O.at (map T.value elements.new) ≡ slice_set (memory_bits T.BITS O.at (map T.value elements.old)) index bit }
     ensures len { length elements.new ≡ length elements.old }

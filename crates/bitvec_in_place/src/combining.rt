@@ -20,7 +20,7 @@ use std::ops::Range;
 
 /// Copies the bits of a view to a range. Condition: the slice has at most `MAX_BITS` bits, the range lies in them, and the
 /// view is as long.
-pub fn copy_from<T: BitStore, O: SliceOrder, U: BitStore, P: BitOrder>(
+pub fn copy_from<T: BitStore, O: BitOrder, U: BitStore, P: BitOrder>(
     elements: &mut [T],
     range: Range<usize>,
     source: BitSlice<'_, U, P>,

@@ -1,18 +1,18 @@
-//! A reader of numbers from the bits of a slice.
-ghost use Rattle.std.specs.Prelude.{◌*◌, ◌≤◌, length};
-ghost use Rattle.bitvec_base.specs.Window.{max_bits};
+//! A reader of numbers and bits, one behind the other.
+ghost use Rattle.std.specs.Prelude.{◌≡◌, ◌<◌, ◌≤◌, length};
+ghost use Rattle.bitvec_segments.specs.Integers.{integer_of};
+ghost use Rattle.bitvec_segments.specs.Segments.{segment_number};
+ghost use Rattle.bitvec_slice.specs.Views.{seen};
 
 use crate::cursor_error::CursorError;
-use crate::numbers::load_plain;
 use bitvec_base::BitOrder;
-use bitvec_field::Integral;
+use bitvec_field::{BitField, Integral};
 use bitvec_segments::FieldOrder;
 use bitvec_slice::BitSlice;
 use bitvec_store::BitStore;
-use std::marker::PhantomData;
 
-/// Reads numbers from the bits of a slice, one behind the other, from the first bit on. The first bit of a number is its
-/// lowest under `Lsb0` and its highest under `Msb0`.
+/// Reads numbers, bits and parts of a slice or of a view, one behind the other, from the first bit on. The first bit of a
+/// number is its lowest under `Lsb0` and its highest under `Msb0`.
 ///
 /// ```
 /// let mut reader = BitReader::<u8, Msb0>::new(bytes);
@@ -21,37 +21,40 @@ use std::marker::PhantomData;
 /// ```
 #[derive(Drop)]
 pub struct BitReader<'a, T: BitStore, O: BitOrder> {
-    elements: &'a [T],
+    view: BitSlice<'a, T, O>,
     position: usize,
-    order: PhantomData<O>,
-    ghost bounded: { T.BITS * length elements.now ≤ max_bits },
-    ghost inside: { position ≤ T.BITS * length elements.now },
+    ghost inside: { position ≤ length (seen view).bits },
 }
 
-#[tactic(auto, using(crate::proofs::Cursors::cursors))]
-impl<'a, T: BitStore, O: FieldOrder> BitReader<'a, T, O> {
-    ghost use Rattle.std.specs.Prelude.{◌≡◌, ◌+◌, ◌-◌, ◌%◌, ◌<◌, ◌↔◌, IfErr, IfOk, IsOk, if◌then◌else◌, is_ok, map};
+#[tactic(auto, using(crate::proofs::Cursors::readers))]
+impl<'a, T: BitStore, O: BitOrder> BitReader<'a, T, O> {
+    ghost use Rattle.std.specs.Prelude.{◌≡◌, ◌+◌, ◌-◌, ◌*◌, ◌%◌, ◌<◌, ◌↔◌, IfErr, IfOk, IsOk, false, if◌then◌else◌, is_ok, map, slice_index_or};
     ghost use Rattle.bitvec_base.specs.Memory.{memory_bits};
-    ghost use Rattle.bitvec_in_place.specs.Cursors.{reading};
-    ghost use Rattle.bitvec_in_place.specs.Ranges.{bits_in, number_in};
+    ghost use Rattle.bitvec_base.specs.Window.{max_bits};
+    ghost use Rattle.bitvec_in_place.specs.Cursors.{reading, start_of};
+    ghost use Rattle.bitvec_in_place.specs.Ranges.{bits_in};
     ghost use Rattle.bitvec_in_place.specs.declared.cursor_error.CursorError.TheVariants.{Ended};
-    ghost use Rattle.bitvec_segments.specs.Integers.{integer_of};
-    ghost use Rattle.bitvec_slice.specs.Views.{seen};
 
-    /// A reader at the first bit. Condition: the elements have at most `MAX_BITS` bits.
+    /// A reader at the first bit of a slice. Condition: the elements have at most `MAX_BITS` bits.
     pub fn new(elements: &'a [T]) -> Self
         requires { T.BITS * length elements.now ≤ max_bits }
         ensures bits { (reading result).bits ≡ memory_bits T.BITS O.at (map T.value elements.now) }
         ensures position { (reading result).position ≡ 0 }
+        ensures start { start_of result ≡ 0 }
     {
-        BitReader {
-            elements,
-            position: 0,
-            order: PhantomData,
-        }
+        BitReader::of_view(BitSlice::from_slice(elements))
     }
 
-    /// How many bits were read or skipped.
+    /// A reader at the first bit of a view. It reads no bit outside the view, so the view's end is a limit.
+    pub fn of_view(view: BitSlice<'a, T, O>) -> Self
+        ensures bits { (reading result).bits ≡ (seen view.entry).bits }
+        ensures position { (reading result).position ≡ 0 }
+        ensures start { start_of result ≡ (seen view.entry).window.start }
+    {
+        BitReader { view, position: 0 }
+    }
+
+    /// The index of the bit that comes next: how many bits were read or skipped.
     pub fn position(&self) -> usize
         ensures { result ≡ (reading self.now).position }
     {
@@ -62,18 +65,16 @@ impl<'a, T: BitStore, O: FieldOrder> BitReader<'a, T, O> {
     pub fn remaining(&self) -> usize
         ensures { result ≡ length (reading self.now).bits - (reading self.now).position }
     {
-        T::BITS as usize * self.elements.len() - self.position
+        self.view.len() - self.position
     }
 
-    /// The bits that are left, as a view, which begins at the index in its first element at which they do.
+    /// The bits that are left, as a view.
     pub fn rest(&self) -> BitSlice<'a, T, O>
         ensures bits { (seen result).bits ≡ bits_in (reading self.now).bits (reading self.now).position (length (reading self.now).bits) }
         ensures len { (seen result).window.len ≡ length (reading self.now).bits - (reading self.now).position }
-        ensures start { (seen result).window.start ≡ (reading self.now).position % T.BITS }
+        ensures start { (seen result).window.start ≡ (start_of self.now + (reading self.now).position) % T.BITS }
     {
-        let all = BitSlice::from_slice(self.elements);
-        let len = all.len();
-        all.into_part(self.position..len)
+        self.view.into_part(self.position..self.view.len())
     }
 
     /// Goes past bits. If fewer are left, it is refused with `Ended`, and the reader stays.
@@ -81,6 +82,7 @@ impl<'a, T: BitStore, O: FieldOrder> BitReader<'a, T, O> {
         ensures accepted { IsOk result ↔ ((reading self.old).position + width ≤ length (reading self.old).bits) }
         ensures refused { IfErr result (λ why. why ≡ Ended) }
         ensures bits { (reading self.new).bits ≡ (reading self.old).bits }
+        ensures start { start_of self.new ≡ start_of self.old }
         ensures position { (reading self.new).position ≡ (reading self.old).position + (if is_ok result then width else 0) }
     {
         if width > self.remaining() {
@@ -90,20 +92,94 @@ impl<'a, T: BitStore, O: FieldOrder> BitReader<'a, T, O> {
         Ok(())
     }
 
-    /// The integer of the next `width` bits. If fewer are left, it is refused with `Ended`, and the reader stays.
-    /// Condition: `width` is from 1 to `I::BITS`.
+    /// The next bit. If none is left, it is refused with `Ended`, and the reader stays.
+    pub fn take_bit(&mut self) -> Result<bool, CursorError>
+        ensures accepted { IsOk result ↔ ((reading self.old).position < length (reading self.old).bits) }
+        ensures refused { IfErr result (λ why. why ≡ Ended) }
+        ensures value { IfOk result (λ bit. bit ≡ slice_index_or (reading self.old).bits (reading self.old).position false) }
+        ensures bits { (reading self.new).bits ≡ (reading self.old).bits }
+        ensures start { start_of self.new ≡ start_of self.old }
+        ensures position { (reading self.new).position ≡ (reading self.old).position + (if is_ok result then 1 else 0) }
+    {
+        let index = self.position;
+        self.skip(1)?;
+        Ok(self.view[index])
+    }
+
+    /// The next `width` bits, as a view. If fewer are left, it is refused with `Ended`, and the reader stays.
+    pub fn take_bits(&mut self, width: usize) -> Result<BitSlice<'a, T, O>, CursorError>
+        ensures accepted { IsOk result ↔ ((reading self.old).position + width ≤ length (reading self.old).bits) }
+        ensures refused { IfErr result (λ why. why ≡ Ended) }
+        ensures value { IfOk result (λ view. (seen view).bits ≡ bits_in (reading self.old).bits (reading self.old).position ((reading self.old).position + width)) }
+        ensures long { IfOk result (λ view. (seen view).window.len ≡ width) }
+        ensures bits { (reading self.new).bits ≡ (reading self.old).bits }
+        ensures start { start_of self.new ≡ start_of self.old }
+        ensures position { (reading self.new).position ≡ (reading self.old).position + (if is_ok result then width else 0) }
+    {
+        let from = self.position;
+        self.skip(width)?;
+        Ok(self.view.into_part(from..from + width))
+    }
+}
+
+#[tactic(auto, using(crate::proofs::Cursors::readers))]
+impl<'a, T: BitStore, O: FieldOrder> BitReader<'a, T, O> {
+    ghost use Rattle.std.specs.Prelude.{◌≡◌, ◌+◌, ◌<◌, ◌↔◌, IfErr, IfOk, IsOk, if◌then◌else◌, is_ok};
+    ghost use Rattle.bitvec_in_place.specs.Cursors.{reading, start_of};
+    ghost use Rattle.bitvec_in_place.specs.Ranges.{number_in};
+    ghost use Rattle.bitvec_in_place.specs.declared.cursor_error.CursorError.TheVariants.{Ended};
+    ghost use Rattle.bitvec_segments.specs.Integers.{integer_of};
+
+    /// The integer of the next `width` bits, 0 of none. If fewer are left, it is refused with `Ended`, and the reader
+    /// stays. Conditions: `I` has a bit, and `width` is at most `I::BITS`.
     pub fn take<I: Integral>(&mut self, width: u32) -> Result<I, CursorError>
-        requires some { 0 < width }
+        requires some { 0 < I.BITS }
         requires bound { width ≤ I.BITS }
         ensures accepted { IsOk result ↔ ((reading self.old).position + width ≤ length (reading self.old).bits) }
         ensures refused { IfErr result (λ why. why ≡ Ended) }
         ensures value { IfOk result (λ number. I.value number ≡ integer_of I.SIGNED width
             (number_in O.HIGH O.HIGH T.BITS (reading self.old).bits (reading self.old).position ((reading self.old).position + width))) }
         ensures bits { (reading self.new).bits ≡ (reading self.old).bits }
+        ensures start { start_of self.new ≡ start_of self.old }
         ensures position { (reading self.new).position ≡ (reading self.old).position + (if is_ok result then width else 0) }
     {
-        let from = self.position;
-        self.skip(width as usize)?;
-        Ok(load_plain::<T, O, I>(self.elements, from..from + width as usize))
+        let number = self.peek::<I>(width)?;
+        self.position += width as usize;
+        Ok(number)
+    }
+
+    /// The integer that [`BitReader::take`] would give; the reader stays. If fewer bits are left, it is refused with
+    /// `Ended`. Conditions: as for `take`.
+    pub fn peek<I: Integral>(&self, width: u32) -> Result<I, CursorError>
+        requires some { 0 < I.BITS }
+        requires bound { width ≤ I.BITS }
+        ensures accepted { IsOk result ↔ ((reading self.now).position + width ≤ length (reading self.now).bits) }
+        ensures refused { IfErr result (λ why. why ≡ Ended) }
+        ensures value { IfOk result (λ number. I.value number ≡ integer_of I.SIGNED width
+            (number_in O.HIGH O.HIGH T.BITS (reading self.now).bits (reading self.now).position ((reading self.now).position + width))) }
+    {
+        if width as usize > self.remaining() {
+            return Err(CursorError::Ended);
+        }
+        if width == 0 {
+            return Ok(I::from_bits(0, 1));
+        }
+        let next = self.position..self.position + width as usize;
+        Ok(plain_number::<T, O, I>(self.view.into_part(next)))
+    }
+}
+
+/// The integer of a view's bits, the first of them lowest under an order that begins with the lowest bit, else highest.
+/// Condition: the view has from 1 to `I::BITS` bits.
+#[tactic(auto, using(crate::proofs::Cursors::plain))]
+fn plain_number<T: BitStore, O: FieldOrder, I: Integral>(view: BitSlice<'_, T, O>) -> I
+    requires some { 0 < (seen view).window.len }
+    requires bound { (seen view).window.len ≤ I.BITS }
+    ensures { I.value result ≡ integer_of I.SIGNED (seen view.entry).window.len (segment_number O.HIGH (seen view.entry).bits) }
+{
+    if O::HIGH {
+        view.load_be::<I>()
+    } else {
+        view.load_le::<I>()
     }
 }

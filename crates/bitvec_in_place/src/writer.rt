@@ -1,17 +1,21 @@
-//! A writer of numbers to the bits of a slice.
-ghost use Rattle.std.specs.Prelude.{◌*◌, ◌≤◌, length};
+//! A writer of numbers and bits, one behind the other.
+ghost use Rattle.std.specs.Prelude.{◌*◌, ◌↔◌, ◌≤◌, IsTrue, length};
 ghost use Rattle.bitvec_base.specs.Window.{max_bits};
+ghost use Rattle.bitvec_in_place.specs.Rows.{row_len};
 
+use crate::bits::set;
+use crate::combining::copy_from;
 use crate::cursor_error::CursorError;
 use crate::numbers::store_plain;
 use bitvec_base::BitOrder;
 use bitvec_field::Integral;
 use bitvec_segments::FieldOrder;
+use bitvec_slice::BitSlice;
 use bitvec_store::BitStore;
 use std::marker::PhantomData;
 
-/// Writes numbers to the bits of a slice, one behind the other, from the first bit on. The first bit of a number is its
-/// lowest under `Lsb0` and its highest under `Msb0`. The caller knows the elements afterwards.
+/// Writes numbers, bits and the bits of views to the bits of a slice, one behind the other; every other bit stays. The first
+/// bit of a number is its lowest under `Lsb0` and its highest under `Msb0`. The caller knows the elements afterwards.
 ///
 /// ```
 /// let mut writer = BitWriter::<u8, Msb0>::new(bytes);
@@ -28,13 +32,15 @@ pub struct BitWriter<'a, T: BitStore, O: BitOrder> {
 }
 
 #[tactic(auto, using(crate::proofs::Cursors::cursors))]
-impl<'a, T: BitStore, O: FieldOrder> BitWriter<'a, T, O> {
-    ghost use Rattle.std.specs.Prelude.{◌≡◌, ◌+◌, ◌-◌, ◌↔◌, IfErr, IsOk, OnErr, OnOk, if◌then◌else◌, is_ok, map};
+impl<'a, T: BitStore, O: BitOrder> BitWriter<'a, T, O> {
+    ghost use Rattle.std.specs.Prelude.{◌≡◌, ◌+◌, ◌-◌, ◌<◌, ◌↔◌, IfErr, IsOk, OnErr, OnOk, if◌then◌else◌, is_ok, map, slice_set};
     ghost use Rattle.bitvec_base.specs.Memory.{memory_bits};
+    ghost use Rattle.bitvec_base.specs.Window.{write_at};
     ghost use Rattle.bitvec_in_place.specs.Cursors.{elements_of, lender_of, writing};
-    ghost use Rattle.bitvec_in_place.specs.Ranges.{numbered};
+    ghost use Rattle.bitvec_in_place.specs.Fronts.{front_bits};
+    ghost use Rattle.bitvec_in_place.specs.Ranges.{bits_in};
     ghost use Rattle.bitvec_in_place.specs.declared.cursor_error.CursorError.TheVariants.{Full};
-    ghost use Rattle.bitvec_segments.specs.Integers.{remainder_of};
+    ghost use Rattle.bitvec_slice.specs.Views.{seen};
 
     /// A writer at the first bit. Condition: the elements have at most `MAX_BITS` bits.
     pub fn new(elements: &'a mut [T]) -> Self
@@ -43,14 +49,26 @@ impl<'a, T: BitStore, O: FieldOrder> BitWriter<'a, T, O> {
         ensures position { (writing result).position ≡ 0 }
         ensures name { lender_of result ≡ elements.entry.ghost_name }
     {
+        BitWriter::starting_at(elements, 0)
+    }
+
+    /// A writer behind the first `position` bits, which stay. Conditions: the elements have at most `MAX_BITS` bits, and as
+    /// many as these.
+    pub fn starting_at(elements: &'a mut [T], position: usize) -> Self
+        requires fits { T.BITS * length elements.old ≤ max_bits }
+        requires inside { position ≤ T.BITS * length elements.old }
+        ensures elements { elements_of result ≡ elements.old }
+        ensures position { (writing result).position ≡ position }
+        ensures name { lender_of result ≡ elements.entry.ghost_name }
+    {
         BitWriter {
             elements,
-            position: 0,
+            position,
             order: PhantomData,
         }
     }
 
-    /// How many bits were written.
+    /// The index of the bit that is written next.
     pub fn position(&self) -> usize
         ensures { result ≡ (writing self.now).position }
     {
@@ -63,6 +81,86 @@ impl<'a, T: BitStore, O: FieldOrder> BitWriter<'a, T, O> {
     {
         T::BITS as usize * self.elements.len() - self.position
     }
+
+    /// The bits before the one that is written next, as a view.
+    pub fn front(&self) -> BitSlice<'_, T, O>
+        ensures bits { (seen result).bits ≡ front_bits (writing self.now).bits (writing self.now).position }
+        ensures len { (seen result).window.len ≡ (writing self.now).position }
+    {
+        BitSlice::from_slice(&*self.elements).into_part(0..self.position)
+    }
+
+    /// The bits that are left, as they stand there, as a view.
+    pub fn rest(&self) -> BitSlice<'_, T, O>
+        ensures bits { (seen result).bits ≡ bits_in (writing self.now).bits (writing self.now).position (length (writing self.now).bits) }
+        ensures len { (seen result).window.len ≡ length (writing self.now).bits - (writing self.now).position }
+    {
+        let all = BitSlice::from_slice(&*self.elements);
+        let len = all.len();
+        all.into_part(self.position..len)
+    }
+
+    /// Goes past bits, which stay. If fewer are left, it is refused with `Full`, and the writer stays.
+    pub fn skip(&mut self, width: usize) -> Result<(), CursorError>
+        ensures accepted { IsOk result ↔ ((writing self.old).position + width ≤ length (writing self.old).bits) }
+        ensures refused { IfErr result (λ why. why ≡ Full) }
+        ensures kept { elements_of self.new ≡ elements_of self.old }
+        ensures position { (writing self.new).position ≡ (writing self.old).position + (if is_ok result then width else 0) }
+        ensures name { lender_of self.new ≡ lender_of self.old }
+    {
+        if width > self.remaining() {
+            return Err(CursorError::Full);
+        }
+        self.position += width;
+        Ok(())
+    }
+
+    /// Makes the next bit `bit`. If none is left, it is refused with `Full`, and nothing is written.
+    pub fn put_bit(&mut self, bit: bool) -> Result<(), CursorError>
+        ensures accepted { IsOk result ↔ ((writing self.old).position < length (writing self.old).bits) }
+        ensures refused { IfErr result (λ why. why ≡ Full) }
+        ensures bits { OnOk result ((writing self.new).bits ≡ slice_set (writing self.old).bits (writing self.old).position bit) }
+        ensures kept { OnErr result (elements_of self.new ≡ elements_of self.old) }
+        ensures position { (writing self.new).position ≡ (writing self.old).position + (if is_ok result then 1 else 0) }
+        ensures len { length (elements_of self.new) ≡ length (elements_of self.old) }
+        ensures name { lender_of self.new ≡ lender_of self.old }
+    {
+        let index = self.position;
+        self.skip(1)?;
+        set::<T, O>(self.elements, index, bit);
+        Ok(())
+    }
+
+    /// Copies the bits of a view to the next bits. If fewer are left, it is refused with `Full`, and nothing is written.
+    pub fn put_bits<U: BitStore, P: BitOrder>(
+        &mut self,
+        source: BitSlice<'_, U, P>,
+    ) -> Result<(), CursorError>
+        ensures accepted { IsOk result ↔ ((writing self.old).position + (seen source.entry).window.len ≤ length (writing self.old).bits) }
+        ensures refused { IfErr result (λ why. why ≡ Full) }
+        ensures bits { OnOk result ((writing self.new).bits ≡ write_at (writing self.old).bits (writing self.old).position (seen source.entry).bits) }
+        ensures kept { OnErr result (elements_of self.new ≡ elements_of self.old) }
+        ensures position { (writing self.new).position ≡ (writing self.old).position + (if is_ok result then (seen source.entry).window.len else 0) }
+        ensures len { length (elements_of self.new) ≡ length (elements_of self.old) }
+        ensures name { lender_of self.new ≡ lender_of self.old }
+    {
+        let from = self.position;
+        self.skip(source.len())?;
+        copy_from::<T, O, U, P>(self.elements, from..self.position, source);
+        Ok(())
+    }
+}
+
+#[tactic(auto, using(crate::proofs::Cursors::cursors))]
+impl<'a, T: BitStore, O: FieldOrder> BitWriter<'a, T, O> {
+    ghost use Rattle.std.specs.Prelude.{◌≡◌, ◌+◌, ◌%◌, ◌^◌, ◌↔◌, IfErr, IsOk, OnErr, OnOk, if◌then◌else◌, is_ok, map};
+    ghost use Rattle.std.specs.List.{All};
+    ghost use Rattle.bitvec_base.specs.Memory.{memory_bits};
+    ghost use Rattle.bitvec_in_place.specs.Cursors.{elements_of, lender_of, writing};
+    ghost use Rattle.bitvec_in_place.specs.Ranges.{ChangesOnly, number_in, numbered};
+    ghost use Rattle.bitvec_in_place.specs.Rows.{HasRow, row_len};
+    ghost use Rattle.bitvec_in_place.specs.declared.cursor_error.CursorError.TheVariants.{Full};
+    ghost use Rattle.bitvec_segments.specs.Integers.{remainder_of};
 
     /// Writes an integer to the next `width` bits; every other bit stays. If it has more bits, its lowest are written. If
     /// fewer are left, it is refused with `Full`, and nothing is written. Condition: `width` is at most `I::BITS`.
@@ -78,12 +176,62 @@ impl<'a, T: BitStore, O: FieldOrder> BitWriter<'a, T, O> {
         ensures name { lender_of self.new ≡ lender_of self.old }
     {
         let from = self.position;
-        if width as usize > self.remaining() {
-            return Err(CursorError::Full);
-        }
-        let to = from + width as usize;
-        store_plain::<T, O, I>(self.elements, from..to, value);
-        self.position = to;
+        self.skip(width as usize)?;
+        store_plain::<T, O, I>(self.elements, from..self.position, value);
         Ok(())
     }
+
+    /// Writes numbers one behind the other, each told with its width as `(width, number)`; every other bit stays. Of a number
+    /// that has more bits the lowest are written. If there are too few bits for all, it is refused with `Full`, and nothing
+    /// is written. Condition: each width is at most 64.
+    pub fn put_row(&mut self, row: &[(u32, u64)]) -> Result<(), CursorError>
+        requires { All (λ field. field.0 ≤ 64) row.now }
+        ensures accepted { IsOk result ↔ ((writing self.old).position + row_len row.now ≤ length (writing self.old).bits) }
+        ensures refused { IfErr result (λ why. why ≡ Full) }
+        ensures row { OnOk result (HasRow O.HIGH T.BITS (writing self.new).bits (writing self.old).position row.now) }
+        ensures outside { ChangesOnly (writing self.old).position (writing self.new).position (writing self.old).bits (writing self.new).bits }
+        ensures kept { OnErr result (elements_of self.new ≡ elements_of self.old) }
+        ensures position { (writing self.new).position ≡ (writing self.old).position + (if is_ok result then row_len row.now else 0) }
+        ensures len { length (elements_of self.new) ≡ length (elements_of self.old) }
+        ensures name { lender_of self.new ≡ lender_of self.old }
+    {
+        if !has_room(self.remaining(), row) {
+            return Err(CursorError::Full);
+        }
+        for field in row {
+            self.put_next(field.0, field.1);
+        }
+        Ok(())
+    }
+
+    /// Writes a number to the next `width` bits. Conditions: `width` is at most 64, and as many bits are left.
+    fn put_next(&mut self, width: u32, number: u64)
+        requires bound { width ≤ 64 }
+        requires room { (writing self.old).position + width ≤ length (writing self.old).bits }
+        ensures number { number_in O.HIGH O.HIGH T.BITS (writing self.new).bits (writing self.old).position ((writing self.old).position + width) ≡ number % 2 ^ width }
+        ensures outside { ChangesOnly (writing self.old).position (writing self.new).position (writing self.old).bits (writing self.new).bits }
+        ensures position { (writing self.new).position ≡ (writing self.old).position + width }
+        ensures len { length (elements_of self.new) ≡ length (elements_of self.old) }
+        ensures name { lender_of self.new ≡ lender_of self.old }
+    {
+        let from = self.position;
+        self.position += width as usize;
+        store_plain::<T, O, u64>(self.elements, from..self.position, number);
+    }
+}
+
+/// Whether numbers fit so many bits.
+#[tactic(auto, using(crate::proofs::Rows::rooms))]
+fn has_room(bits: usize, row: &[(u32, u64)]) -> bool
+    ensures { IsTrue result ↔ (row_len row.now ≤ bits) }
+{
+    let mut left = bits;
+    for field in row {
+        let width = field.0 as usize;
+        if width > left {
+            return false;
+        }
+        left -= width;
+    }
+    true
 }

@@ -41,24 +41,11 @@ fn bits_from_both_ends(rt: HostRuntime) {
     if let Ok(mut copy) = bits.clone() {
         assert!(rt; value_of(copy.next()) == Some(false) && bits.len() == 3);
     }
-}
-
-/// Whether there is a truth value, and it is this one.
-fn is_value(bit: Option<&bool>, wanted: bool) -> bool {
-    match bit {
-        Some(bit) => *bit == wanted,
-        None => false,
-    }
-}
-
-#[test]
-fn bits_as_truth_values(rt: HostRuntime) {
     let mut elements = [0x17u8];
     let view = BitSliceMut::<u8, Msb0>::from_slice_mut(&mut elements);
     let mut refs = view.iter().by_refs();
-    assert!(rt;
-        is_value(refs.next(), false) && is_value(refs.next_back(), true) && refs.len() == 6
-    );
+    let (first, last) = (refs.next().copied(), refs.next_back().copied());
+    assert!(rt; ([first, last], refs.len()) == ([Some(false), Some(true)], 6));
     let mut vals = view.iter().copied();
     assert!(rt; [vals.next_back(), vals.next()] == [Some(true), Some(false)]);
 }

@@ -54,16 +54,6 @@ fn gives(kind: usize, from: usize, to: usize) -> bool {
 }
 
 #[test]
-fn into_bitslice_leaves_the_other_elements(rt: HostRuntime) {
-    assert!(rt; gives(3, 16, 21));
-}
-
-#[test]
-fn into_slice_leaves_the_other_elements(rt: HostRuntime) {
-    assert!(rt; gives(4, 8, 21));
-}
-
-#[test]
-fn into_remainder_leaves_the_other_elements(rt: HostRuntime) {
-    assert!(rt; gives(5, 18, 21));
+fn what_is_given_leaves_the_other_elements(rt: HostRuntime) {
+    assert!(rt; gives(3, 16, 21) && gives(4, 8, 21) && gives(5, 18, 21));
 }

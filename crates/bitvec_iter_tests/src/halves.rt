@@ -40,17 +40,14 @@ fn halves_meet_inside_an_element(rt: HostRuntime) {
     assert!(rt; lens_of_halves(&mut [0, 0]) == (16, 5));
 }
 
-/// Sets one of the halves around the first bit of the bits 3 up to 21, and says where these stand then.
-fn set_around_first(bytes: &mut [u8; 3], is_left: bool) -> Window {
+/// Sets one of the halves around the first or the last bit of the bits 3 up to 21, and says where these stand then.
+fn set_around(bytes: &mut [u8; 3], is_first: bool, is_left: bool) -> Window {
     let mut view = BitSliceMut::<u8, Lsb0>::from_slice_mut(bytes).into_part(3..21);
-    set_half(view.split_first_mut(), is_left);
-    view.window()
-}
-
-/// Sets the bits around the last bit.
-fn set_around_last(bytes: &mut [u8; 3], is_left: bool) -> Window {
-    let mut view = BitSliceMut::<u8, Lsb0>::from_slice_mut(bytes).into_part(3..21);
-    set_half(view.split_last_mut(), is_left);
+    if is_first {
+        set_half(view.split_first_mut(), is_left);
+    } else {
+        set_half(view.split_last_mut(), is_left);
+    }
     view.window()
 }
 
@@ -67,25 +64,18 @@ fn set_half(halves: Option<HalvesMut<'_, u8, Lsb0>>, is_left: bool) {
     }
 }
 
-const STAYS: Window = Window { start: 3, len: 18 };
-
 #[test]
-fn split_first_mut_lends_both_halves(rt: HostRuntime) {
-    for (is_left, wanted) in [(true, [0x08, 0x00, 0x00]), (false, [0xF0, 0xFF, 0x1F])] {
-        for bytes in MEMORIES {
+fn both_halves_around_a_bit_are_lent(rt: HostRuntime) {
+    for bytes in MEMORIES {
+        for (is_first, is_left, wanted) in [
+            (true, true, [0x08, 0x00, 0x00]),
+            (true, false, [0xF0, 0xFF, 0x1F]),
+            (false, true, [0xF8, 0xFF, 0x0F]),
+            (false, false, [0x00, 0x00, 0x10]),
+        ] {
             let mut after = bytes;
-            assert!(rt; set_around_first(&mut after, is_left) == STAYS);
-            assert!(rt; after == with_ones(bytes, wanted));
-        }
-    }
-}
-
-#[test]
-fn split_last_mut_lends_both_halves(rt: HostRuntime) {
-    for (is_left, wanted) in [(true, [0xF8, 0xFF, 0x0F]), (false, [0x00, 0x00, 0x10])] {
-        for bytes in MEMORIES {
-            let mut after = bytes;
-            assert!(rt; set_around_last(&mut after, is_left) == STAYS);
+            let window = set_around(&mut after, is_first, is_left);
+            assert!(rt; window == Window { start: 3, len: 18 });
             assert!(rt; after == with_ones(bytes, wanted));
         }
     }

@@ -15,23 +15,6 @@ fn left_of(view: &mut BitSliceMut<'_, u8, Lsb0>) -> [usize; 3] {
     ]
 }
 
-/// How many bits a walk over the writable view has left.
-fn taken_of(view: &mut BitSliceMut<'_, u8, Lsb0>) -> usize {
-    let mut bits = view.iter_mut();
-    bits.pass(2);
-    bits.pass_back(1);
-    let left = bits.into_bitslice();
-    left.len()
-}
-
-/// How many bits are left behind the first, by the old name.
-fn taken_by_old_name(view: &mut BitSliceMut<'_, u8, Lsb0>) -> usize {
-    let mut bits = view.iter_mut();
-    bits.pass(1);
-    let left = bits.into_slice();
-    left.len()
-}
-
 /// Flips every second one of the bits behind the first two and before the last three, from the first of these
 /// on.
 fn flip_every_second(bytes: &mut [u8; 2]) -> bool {
@@ -51,5 +34,4 @@ fn bits_that_are_left(rt: HostRuntime) {
     let mut byte = [0x00];
     let mut view = BitSliceMut::from_slice_mut(&mut byte);
     assert!(rt; left_of(&mut view) == [5, 5, 5]);
-    assert!(rt; [taken_of(&mut view), taken_by_old_name(&mut view)] == [5, 7]);
 }

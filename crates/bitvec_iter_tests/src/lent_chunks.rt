@@ -4,37 +4,23 @@ use bitvec_edit::BitEdits;
 use bitvec_iter::PieceCallsMut;
 use bitvec_slice::BitSliceMut;
 
-/// Sets the second of the two chunks of four bits.
-fn set_second(bytes: &mut [u8; 1]) {
-    let mut view = BitSliceMut::<u8, Msb0>::from_slice_mut(bytes);
-    let mut chunks = view.chunks_exact_mut(4);
-    if let Some(mut chunk) = chunks.nth_mut(1) {
-        chunk.fill(true);
-    }
-}
-
-/// Sets the first bit of each chunk of three, by the calls that give no `Option`.
+/// Sets the first bit of each chunk of three, by turns from both ends, by the calls that give no `Option`.
 fn set_first_bits(bytes: &mut [u8; 1]) {
     let mut view = BitSliceMut::<u8, Lsb0>::from_slice_mut(bytes);
     let mut chunks = view.chunks_mut(3);
-    for _ in 0..chunks.len() {
+    for number in 0..chunks.len() {
         if chunks.is_empty() {
             break;
         }
-        let mut chunk = chunks.take_mut();
+        let mut chunk = if number % 2 == 0 {
+            chunks.take_mut()
+        } else {
+            chunks.take_back_mut()
+        };
         if !chunk.is_empty() {
             chunk.set(0, true);
         }
     }
-}
-
-#[test]
-fn chunks_are_given_and_taken(rt: HostRuntime) {
-    let mut second = [0x00];
-    set_second(&mut second);
-    let mut first_bits = [0x00];
-    set_first_bits(&mut first_bits);
-    assert!(rt; [second, first_bits] == [[0x0F], [0x49]]);
 }
 
 /// How many chunks of three bits there are, how many bits their remainder has, which is set, how many it has
@@ -75,10 +61,23 @@ fn set_left_over(view: &mut BitSliceMut<'_, u8, Lsb0>) {
     rest.fill(true);
 }
 
+/// Sets the second of the two chunks of four bits.
+fn set_second(bytes: &mut [u8; 1]) {
+    let mut view = BitSliceMut::<u8, Msb0>::from_slice_mut(bytes);
+    let mut chunks = view.chunks_exact_mut(4);
+    if let Some(mut chunk) = chunks.nth_mut(1) {
+        chunk.fill(true);
+    }
+}
+
 #[test]
-fn a_remainder_is_taken_once(rt: HostRuntime) {
+fn chunks_and_a_remainder_are_taken(rt: HostRuntime) {
+    let mut first_bits = [0x00];
+    set_first_bits(&mut first_bits);
     let mut bytes = [0x00];
     assert!(rt; set_remainder(&mut bytes) == [2, 2, 0, 3, 0]);
     set_left_over(&mut BitSliceMut::from_slice_mut(&mut bytes));
-    assert!(rt; bytes == [0xC3]);
+    let mut second = [0x00];
+    set_second(&mut second);
+    assert!(rt; [first_bits, bytes, second] == [[0x49], [0xC3], [0x0F]]);
 }

@@ -1,6 +1,7 @@
 //! Writable splits of bits at ones, whose pieces are lent, and flipped. Of the bits 3 up to 21 of three bytes
 //! twelve are called for, some past the end: then the pieces, how often the predicate was asked, and the bytes
 //! are those of the plain list, whose ones stay.
+
 ghost use Rattle.std.specs.Prelude.{◌*◌, ◌≤◌, length};
 ghost use Rattle.bitvec_base.specs.Window.{max_bits};
 
@@ -9,7 +10,6 @@ use bitvec_slice::BitSliceMut;
 use bitvec_split::SplitCallsMut;
 use bitvec_store::BitStore;
 use bitvec_test_support::MEMORIES;
-use std::process::Abort;
 
 /// Flips the first pieces between ones, some from the front and then one from the back, and gives how
 /// many bits they have.
@@ -32,14 +32,6 @@ fn flip_between<T: BitStore, O: BitOrder>(elements: &mut [T], front: usize) -> u
     bits
 }
 
-#[test]
-fn pieces_between_ones_are_flipped(rt: HostRuntime) {
-    // 0, 1, 0, 0, 1, 0, 1, 0
-    let mut elements = [0x52u8];
-    assert!(rt; flip_between::<u8, Lsb0>(&mut elements, 2) == 4);
-    assert!(rt; elements == [0xDF]);
-}
-
 /// Flips what a call lends, and notes how many bits it has, and one more, as two digits.
 fn flip_lent(noted: u128, piece: Option<BitSliceMut<'_, u8, Lsb0>>) -> u128 {
     match piece {
@@ -57,14 +49,6 @@ fn flip_inclusive(elements: &mut [u8; 1]) -> u128 {
     let mut view = BitSliceMut::<u8, Lsb0>::from_slice_mut(elements);
     let mut pieces = view.split_inclusive_mut(|_, bit| *bit);
     flip_lent(0, pieces.next_mut())
-}
-
-// The bits are 0, 1, 0, 0, 1, 0, 1, 0.
-#[test]
-fn a_piece_is_flipped_with_the_one_at_its_end(rt: HostRuntime) {
-    let mut elements = [0x52u8];
-    assert!(rt; flip_inclusive(&mut elements) == 3);
-    assert!(rt; elements == [0x51]);
 }
 
 /// How many pieces an inclusive split of no bits may lend, which come from either end, and how often its predicate is
@@ -87,13 +71,6 @@ fn split_nothing(bytes: &mut [u8; 1]) -> ((usize, Option<usize>), u128, usize) {
     (hint, noted, asked)
 }
 
-#[test]
-fn an_inclusive_split_of_no_bits_lends_nothing(rt: HostRuntime) {
-    let mut bytes = [0x5A];
-    assert!(rt; split_nothing(&mut bytes) == ((0, Some(0)), 0, 0));
-    assert!(rt; bytes == [0x5A]);
-}
-
 /// Calls a split twelve times, at even and at odd calls from the back or not. Gives what came, and how often the
 /// predicate was asked.
 fn split_in(bytes: &mut [u8; 3], from_back: [bool; 2]) -> (u128, usize) {
@@ -111,34 +88,6 @@ fn split_in(bytes: &mut [u8; 3], from_back: [bool; 2]) -> (u128, usize) {
         };
     }
     (noted, asked)
-}
-
-/// Asserts that a split of each of two memories gives such pieces, and asks about each bit once.
-fn splits<R: Abort>(rt: &R, from_back: [bool; 2], pieces: [u128; 2]) {
-    let all_ones = [[0xFE, 0xFF, 0x5F], [0xF9, 0xFF, 0xBF]];
-    for index in 0..2 {
-        let mut bytes = MEMORIES[index];
-        assert!(rt; split_in(&mut bytes, from_back) == (pieces[index], 18));
-        assert!(rt; bytes == all_ones[index]);
-    }
-}
-
-#[test]
-fn pieces_by_next_mut(rt: HostRuntime) {
-    let first = 03_02_03_01_01_01_03_03_01_01;
-    splits(&rt, [false, false], [first, 01_01_02_02_01_05_01_02_01_03]);
-}
-
-#[test]
-fn pieces_by_next_back_mut(rt: HostRuntime) {
-    let first = 01_01_03_03_01_01_01_03_02_03;
-    splits(&rt, [true, true], [first, 03_01_02_01_05_01_02_02_01_01]);
-}
-
-#[test]
-fn pieces_by_turns(rt: HostRuntime) {
-    let first = 03_01_02_01_03_03_01_03_01_01;
-    splits(&rt, [false, true], [first, 01_03_01_01_02_02_02_01_01_05]);
 }
 
 /// Calls a split into two pieces at most twelve times, and gives what came.
@@ -161,5 +110,41 @@ fn limited_pieces_by_next_mut(rt: HostRuntime) {
         let mut bytes = bytes;
         assert!(rt; split_in_two(&mut bytes) == pieces);
         assert!(rt; bytes == after);
+    }
+}
+
+// The bits are 0, 1, 0, 0, 1, 0, 1, 0.
+#[test]
+fn an_inclusive_split_lends_a_piece_with_its_one_and_none_of_no_bits(rt: HostRuntime) {
+    let mut bytes = [0x52];
+    assert!(rt; split_nothing(&mut bytes) == ((0, Some(0)), 0, 0) && bytes == [0x52]);
+    assert!(rt; flip_inclusive(&mut bytes) == 3 && bytes == [0x51]);
+    let mut elements = [0x52];
+    assert!(rt; flip_between::<u8, Lsb0>(&mut elements, 2) == 4 && elements == [0xDF]);
+}
+
+// By `next_mut`, by `next_back_mut` and by both in turn. Each bit is asked about once.
+#[test]
+fn pieces_from_either_end_are_lent(rt: HostRuntime) {
+    let all_ones = [[0xFE, 0xFF, 0x5F], [0xF9, 0xFF, 0xBF]];
+    for (from_back, pieces) in [
+        (
+            [false, false],
+            [03_02_03_01_01_01_03_03_01_01, 01_01_02_02_01_05_01_02_01_03],
+        ),
+        (
+            [true, true],
+            [01_01_03_03_01_01_01_03_02_03, 03_01_02_01_05_01_02_02_01_01],
+        ),
+        (
+            [false, true],
+            [03_01_02_01_03_03_01_03_01_01, 01_03_01_01_02_02_02_01_01_05],
+        ),
+    ] {
+        for index in 0..2 {
+            let mut bytes = MEMORIES[index];
+            assert!(rt; split_in(&mut bytes, from_back) == (pieces[index], 18));
+            assert!(rt; bytes == all_ones[index]);
+        }
     }
 }

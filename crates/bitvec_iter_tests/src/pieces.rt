@@ -54,7 +54,7 @@ fn pieces_from_both_ends(rt: HostRuntime) {
 }
 
 #[test]
-fn a_clone_walks_alone(rt: HostRuntime) {
+fn a_clone_walks_alone_and_remainders_are_left(rt: HostRuntime) {
     let elements = [0x17u8];
     let view = BitSlice::<u8, Msb0>::from_slice(&elements);
     let mut chunks = view.chunks(3);
@@ -66,10 +66,6 @@ fn a_clone_walks_alone(rt: HostRuntime) {
     };
     assert!(rt; copied == [Some((3, 5)), Some((2, 3)), None, None]);
     assert!(rt; (hint, read(chunks.next())) == ((2, Some(2)), Some((3, 5))));
-}
-
-#[test]
-fn remainders_are_what_no_exact_chunk_has(rt: HostRuntime) {
     let mut elements = [0x17u8];
     let view = BitSliceMut::<u8, Msb0>::from_slice_mut(&mut elements);
     let mut front = view.chunks_exact(3);
@@ -77,10 +73,7 @@ fn remainders_are_what_no_exact_chunk_has(rt: HostRuntime) {
     let mut chunks = view.rchunks(3);
     assert!(rt; read(chunks.next()) == Some((3, 7)));
     assert!(rt; read(Some(view.rchunks_exact(3).remainder())) == Some((2, 0)));
-    assert!(rt;
-        [
-            front.remainder().len(),
-            view.into_part(0..5).windows(6).len()
-        ] == [2, 0]
-    );
+    let left = front.remainder().len();
+    let none = view.into_part(0..5).windows(6).len();
+    assert!(rt; [left, none] == [2, 0]);
 }

@@ -7,13 +7,6 @@ use bitvec_split::SplitCallsMut;
 use bitvec_test_support::shows;
 use std::alloc::Global;
 
-#[test]
-fn walks_print_their_pieces(rt: HostRuntime) {
-    let mut chunks = BitSlice::<u8, Lsb0>::from_slice(&[0x16]).chunks(3);
-    let _first = chunks.next();
-    assert!(rt; shows(rt.alloc(), &chunks, "Pieces([[0, 1, 0], [0, 0]])"));
-}
-
 /// Whether the chunks of three bits from the end show so behind the first.
 fn chunks_show(alloc: Global, bytes: &mut [u8; 1], text: &str) -> bool {
     let mut view = BitSliceMut::<u8, Lsb0>::from_slice_mut(bytes);
@@ -38,7 +31,10 @@ fn halves_show(alloc: Global, bytes: &mut [u8; 1], text: &str) -> bool {
 }
 
 #[test]
-fn lenders_print_what_is_left(rt: HostRuntime) {
+fn walks_and_lenders_print_what_is_left(rt: HostRuntime) {
+    let mut chunks = BitSlice::<u8, Lsb0>::from_slice(&[0x16]).chunks(3);
+    let _first = chunks.next();
+    assert!(rt; shows(rt.alloc(), &chunks, "Pieces([[0, 1, 0], [0, 0]])"));
     let mut bytes = [0x16];
     assert!(rt; chunks_show(rt.alloc(), &mut bytes, "PiecesMut([[1, 0, 1], [0, 1]])"));
     assert!(rt; bits_show(rt.alloc(), &mut bytes, "IterMut([0, 1, 0, 0, 0])"));

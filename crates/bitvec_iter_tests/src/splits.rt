@@ -44,74 +44,6 @@ fn is_one(_index: usize, bit: &bool) -> bool {
     *bit
 }
 
-// The bits are 0, 1, 0, 0, 1.
-#[test]
-fn splits_at_ones(rt: HostRuntime) {
-    let elements = [0x90u8];
-    let view = BitSlice::<u8, Lsb0>::from_slice(&elements).into_part(3..8);
-    assert!(rt; numbers(view.split(|_, bit| *bit)) == [0b1_0, 0b1_00, 0b1, 0]);
-    assert!(rt; numbers(view.rsplit(is_one)) == [0b1, 0b1_00, 0b1_0, 0]);
-}
-
-/// The first five bits.
-fn five(element: &[u8; 1]) -> BitSlice<'_, u8, Lsb0> {
-    BitSlice::from_slice(element).into_part(0..5)
-}
-
-// The bits are 0, 1, 0, 0, 1, over two elements.
-#[test]
-fn inclusive_splits_at_ones(rt: HostRuntime) {
-    let mut elements = [0x40u8, 0x02];
-    let view = BitSliceMut::<u8, Lsb0>::from_slice_mut(&mut elements).into_part(5..10);
-    let pieces = view.split_inclusive(|_, bit| *bit);
-    assert!(rt; numbers(pieces) == [0b1_01, 0b1_001, 0, 0]);
-}
-
-#[test]
-fn inclusive_splits_from_the_end(rt: HostRuntime) {
-    let view = BitSlice::<u8, Lsb0>::from_slice(&[0x40, 0x02]).into_part(5..10);
-    let mut pieces = view.split_inclusive(is_one);
-    assert!(rt; place(pieces.next_back()) == Some((7, 3)));
-    assert!(rt; place(pieces.next_back()) == Some((5, 2)) && pieces.next_back().is_none());
-}
-
-#[test]
-fn splits_of_no_bits(rt: HostRuntime) {
-    let none = BitSlice::<u8, Lsb0>::from_slice(&[]);
-    assert!(rt; numbers(none.split(is_one)) == [0b1, 0, 0, 0]);
-    let mut pieces = none.split_inclusive(is_one);
-    assert!(rt; pieces.size_hint() == (0, Some(0)));
-    assert!(rt; pieces.next().is_none() && pieces.next_back().is_none());
-}
-
-// The bits are 0, 1, 0, 0, 1.
-#[test]
-fn limited_splits_at_ones(rt: HostRuntime) {
-    let mut elements = [0x12u8];
-    let view = BitSliceMut::<u8, Lsb0>::from_slice_mut(&mut elements).into_part(0..5);
-    assert!(rt; numbers(view.splitn(2, is_one)) == [0b1_0, 0b1_001, 0, 0]);
-    assert!(rt; numbers(view.rsplitn(2, is_one)) == [0b1, 0b1_0100, 0, 0]);
-    assert!(rt; view.splitn(0, is_one).next().is_none());
-}
-
-#[test]
-fn how_many_pieces_may_come(rt: HostRuntime) {
-    let mut pieces = five(&[0x12]).split(is_one);
-    let hint = pieces.size_hint();
-    let _piece = pieces.next();
-    assert!(rt; hint == (1, Some(6)) && pieces.size_hint() == (1, Some(4)));
-    assert!(rt; shows(rt.alloc(), &pieces, "Splits([0, 0, 1])"));
-}
-
-#[test]
-fn how_many_pieces_of_a_limited_split_may_come(rt: HostRuntime) {
-    let view = five(&[0x12]);
-    assert!(rt; view.splitn(2, |_, bit| *bit).size_hint() == (1, Some(2)));
-    assert!(rt; view.splitn(0, |_, bit| *bit).size_hint() == (0, Some(0)));
-    let text = "SplitsN([0, 1, 0, 0, 1], 1)";
-    assert!(rt; shows(rt.alloc(), &view.rsplitn(1, is_one), text));
-}
-
 /// The indices about which some pieces from the front ask a predicate that says yes at ones, as digits, each one
 /// greater.
 fn asked_in_front(view: BitSlice<'_, u8, Lsb0>, calls: usize) -> usize {
@@ -176,4 +108,51 @@ fn the_predicate_is_asked_through_its_own_states(rt: HostRuntime) {
         None,
     ];
     assert!(rt; places_of_six(true) == from_both_ends);
+}
+
+/// The view 0, 1, 0, 0, 1 over two elements.
+fn five(elements: &[u8; 2]) -> BitSlice<'_, u8, Lsb0> {
+    BitSlice::from_slice(elements).into_part(5..10)
+}
+
+#[test]
+fn splits_at_ones(rt: HostRuntime) {
+    let elements = [0x90u8];
+    let view = BitSlice::<u8, Lsb0>::from_slice(&elements).into_part(3..8);
+    assert!(rt; numbers(view.split(|_, bit| *bit)) == [0b1_0, 0b1_00, 0b1, 0]);
+    assert!(rt; numbers(view.rsplit(is_one)) == [0b1, 0b1_00, 0b1_0, 0]);
+    let view = five(&[0x40, 0x02]);
+    let mut pieces = view.split_inclusive(is_one);
+    let places = [place(pieces.next_back()), place(pieces.next_back())];
+    assert!(rt; places == [Some((7, 3)), Some((5, 2))] && pieces.next_back().is_none());
+    let none = BitSlice::<u8, Lsb0>::from_slice(&[]);
+    let mut pieces = none.split_inclusive(is_one);
+    assert!(rt; pieces.size_hint() == (0, Some(0)));
+    assert!(rt; pieces.next().is_none() && pieces.next_back().is_none());
+    assert!(rt; numbers(none.split(is_one)) == [0b1, 0, 0, 0]);
+}
+
+#[test]
+fn splits_of_a_writable_view(rt: HostRuntime) {
+    let mut elements = [0x40u8, 0x02];
+    let view = BitSliceMut::<u8, Lsb0>::from_slice_mut(&mut elements).into_part(5..10);
+    let pieces = view.split_inclusive(|_, bit| *bit);
+    assert!(rt; numbers(pieces) == [0b1_01, 0b1_001, 0, 0]);
+    assert!(rt; numbers(view.splitn(2, is_one)) == [0b1_0, 0b1_001, 0, 0]);
+    assert!(rt; numbers(view.rsplitn(2, is_one)) == [0b1, 0b1_0100, 0, 0]);
+    assert!(rt; view.splitn(0, is_one).next().is_none());
+}
+
+#[test]
+fn how_many_pieces_may_come(rt: HostRuntime) {
+    let view = five(&[0x40, 0x02]);
+    let mut pieces = view.split(is_one);
+    let hint = pieces.size_hint();
+    let _piece = pieces.next();
+    assert!(rt; hint == (1, Some(6)) && pieces.size_hint() == (1, Some(4)));
+    assert!(rt; view.splitn(2, |_, bit| *bit).size_hint() == (1, Some(2)));
+    assert!(rt; view.splitn(0, |_, bit| *bit).size_hint() == (0, Some(0)));
+    let limited = "SplitsN([0, 1, 0, 0, 1], 1)";
+    assert!(rt; shows(rt.alloc(), &pieces, "Splits([0, 0, 1])"));
+    assert!(rt; shows(rt.alloc(), &view.rsplitn(1, is_one), limited));
 }

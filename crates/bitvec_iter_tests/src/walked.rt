@@ -112,43 +112,16 @@ fn sets_bits(call: Call, taken: usize, wanted: [u8; 3]) -> bool {
     true
 }
 
+// A call that passes one sets the second and the fourth of five chunks, and every second bit.
 #[test]
-fn chunks_by_next_mut(rt: HostRuntime) {
-    assert!(rt; sets_chunks(Call::Next, 1, [0xF8, 0xFF, 0x1F]));
-}
-
-#[test]
-fn chunks_by_next_back_mut(rt: HostRuntime) {
-    assert!(rt; sets_chunks(Call::NextBack, 1, [0xF8, 0xFF, 0x1F]));
-}
-
-// The second and the fourth of five chunks.
-#[test]
-fn chunks_by_nth_mut(rt: HostRuntime) {
-    assert!(rt; sets_chunks(Call::Nth, 2, [0x80, 0x87, 0x07]));
-}
-
-#[test]
-fn chunks_by_nth_back_mut(rt: HostRuntime) {
-    assert!(rt; sets_chunks(Call::NthBack, 2, [0x80, 0x87, 0x07]));
-}
-
-#[test]
-fn bits_by_next_mut(rt: HostRuntime) {
-    assert!(rt; sets_bits(Call::Next, 1, [0xF8, 0xFF, 0x1F]));
-}
-
-#[test]
-fn bits_by_next_back_mut(rt: HostRuntime) {
-    assert!(rt; sets_bits(Call::NextBack, 1, [0xF8, 0xFF, 0x1F]));
-}
-
-#[test]
-fn bits_by_nth_mut(rt: HostRuntime) {
-    assert!(rt; sets_bits(Call::Nth, 2, [0x50, 0x55, 0x15]));
-}
-
-#[test]
-fn bits_by_nth_back_mut(rt: HostRuntime) {
-    assert!(rt; sets_bits(Call::NthBack, 2, [0xA8, 0xAA, 0x0A]));
+fn chunks_and_bits_by_each_call(rt: HostRuntime) {
+    let all = [0xF8, 0xFF, 0x1F];
+    for (call, taken, chunks, bits) in [
+        (Call::Next, 1, all, all),
+        (Call::NextBack, 1, all, all),
+        (Call::Nth, 2, [0x80, 0x87, 0x07], [0x50, 0x55, 0x15]),
+        (Call::NthBack, 2, [0x80, 0x87, 0x07], [0xA8, 0xAA, 0x0A]),
+    ] {
+        assert!(rt; sets_chunks(call, taken, chunks) && sets_bits(call, taken, bits));
+    }
 }

@@ -1,11 +1,14 @@
 -- Lists that were added to a sequence, one after the other, and the words in which they came.
-use Rattle.std.specs.Prelude.{◌≡◌, ℕ, ◌+◌, ◌-◌, ◌<◌, ◌≤◌, Bool, true, false, if◌then◌else◌, is_ok, List, [], ◌∷◌, ◌++◌, OnErr, Result, Ok, Err, drop, slice_range, take, refl}
-use Rattle.std.proofs.Common.{◌∙◌, ap, append_assoc, arith, sym}
-use Rattle.std.proofs.lemmas.List.{append-nil, drop-append-le, drop_all, drop-drop, length-drop}
+use Rattle.std.specs.Prelude.{◌≡◌, ℕ, ◌+◌, ◌-◌, ◌<◌, ◌≤◌, ◌==◌, Bool, true, false, if◌then◌else◌, is_ok, length, List, [], ◌∷◌, ◌++◌, OnErr, Result, Ok, Err, drop, slice_range, take, refl}
+use Rattle.std.specs.Int.{bit_at}
+use Rattle.std.proofs.Common.{◌∙◌, ap, append_assoc, arith, length-append, subst, sym}
+use Rattle.std.proofs.lemmas.List.{append-nil, drop-append-le, drop_all, drop-drop, get_or-drop, get_or-take, length-drop, length-take-le, same_lists}
+use Rattle.std.proofs.lemmas.Slice.{between_from_start}
 use Rattle.bitvec_base.specs.Memory.{element_bits}
-use Rattle.bitvec_base.specs.MemoryLaws.{length-element_bits}
+use Rattle.bitvec_base.specs.MemoryLaws.{get-element_bits, length-element_bits}
 use Rattle.bitvec_base.specs.SliceLaws.{range-to_end}
 use Rattle.bitvec_base.specs.Window.{window_of}
+use Rattle.bitvec_segments.specs.Segments.{segment_bits}
 use Rattle.bitvec_slice.specs.Seen.{Seen, shown}
 use Rattle.bitvec_owned.specs.AroundLaws.{around-then}
 use Rattle.bitvec_owned.specs.Copies.{KeepsAround}
@@ -59,20 +62,74 @@ module _ {T : Type 0} (b : ℕ) (first now : Seen T) (list : List Bool) (word he
       ∙ ap (λ (l : List Bool). l ++ (bit ∷ [])) (drop-drop (64 - (held + 1)) 1 (bits_of word) ∙ ap (λ (n : ℕ). drop n (bits_of word)) places) in
       (was.0, was.1, ap (λ (l : List Bool). l ++ (bit ∷ [])) was.2 ∙ append_assoc was.0 (drop (64 - held) (bits_of word)) (bit ∷ []) ∙ ap (λ (l : List Bool). was.0 ++ l) (sym behind))
 
+  -- how many bits there are with those that are held
+  pub held-long : Held b first now list word held → held ≤ 64 → length now.bits + held ≡ length first.bits + length list
+  held-long was few =
+      let last = drop (64 - held) (bits_of word) in
+      let long = length-element_bits 64 (λ b i. i) word in
+      let added = ap length was.1.0 ∙ length-append first.bits was.0 in
+      let all = ap length was.2 ∙ length-append was.0 last in
+      let behind = length-drop (64 - held) (bits_of word) in
+      omega arith
+
 -- the first bit of the word that a truth value is
 pub first-bit : (bit : Bool) (word : ℕ) → (bit ≡ true → word ≡ 1) → (bit ≡ false → word ≡ 0) → take 1 (element_bits 64 (λ b i. i) word) ≡ bit ∷ []
 unfolding element_bits
 first-bit true word one none = rw (one refl) refl
 first-bit false word one none = rw (none refl) refl
 
--- what a view of a word's last bits shows
-pub last-bits : (word len : ℕ) → len ≤ 64 → (shown 64 (λ b i. i) (λ word. word) (word ∷ []) (64 - len) len).bits ≡ drop (64 - len) (element_bits 64 (λ b i. i) word)
-unfolding window_of
-last-bits word len few =
-    let bits = element_bits 64 (λ b i. i) word in
-    let long = length-element_bits 64 (λ b i. i) word in
-    ap (λ (l : List Bool). slice_range l (64 - len) (64 - len + len)) (one 64 (λ b i. i) (λ (word : ℕ). word) (omega arith) word)
-    ∙ range-to_end bits (64 - len) (64 - len + len) (omega arith)
+-- where none is held, all were added
+pub held-all : {T : Type 0} (b : ℕ) (first now : Seen T) (list : List Bool) (word : ℕ) → Held b first now list word 0 → Adds b first list now
+held-all b first now list word was =
+    let none : drop 64 (element_bits 64 (λ b i. i) word) ≡ [] = let long = length-element_bits 64 (λ b i. i) word in drop_all 64 (element_bits 64 (λ b i. i) word) (omega arith) in
+    subst (λ (l : List Bool). Adds b first l now) (sym (was.2 ∙ ap (λ (l : List Bool). was.0 ++ l) none ∙ append-nil was.0)) was.1
+
+-- what a view of a word's last bits shows, and one of its first bits
+module _ (at : ℕ → ℕ → ℕ) (word len : ℕ) (few : len ≤ 64) where
+  abbrev word_bits : List Bool
+  word_bits = element_bits 64 at word
+
+  pub last-shown : (shown 64 at (λ word. word) (word ∷ []) (64 - len) len).bits ≡ drop (64 - len) word_bits
+  unfolding window_of
+  last-shown =
+      let long = length-element_bits 64 at word in
+      ap (λ (l : List Bool). slice_range l (64 - len) (64 - len + len)) (one 64 at (λ (word : ℕ). word) (omega arith) word)
+      ∙ range-to_end word_bits (64 - len) (64 - len + len) (omega arith)
+
+  pub first-shown : (shown 64 at (λ word. word) (word ∷ []) 0 len).bits ≡ take len word_bits
+  unfolding window_of
+  first-shown =
+      let end : 0 + len ≡ len = omega arith in
+      ap (λ (l : List Bool). slice_range l 0 (0 + len)) (one 64 at (λ (word : ℕ). word) (omega arith) word)
+      ∙ ap (λ (e : ℕ). slice_range word_bits 0 e) end
+      ∙ between_from_start word_bits len
+
+-- the lowest bits of a word, from either end
+pub highest-shown : (word len : ℕ) → len ≤ 64 → (shown 64 (λ b i. b - 1 - i) (λ word. word) (word ∷ []) (64 - len) len).bits ≡ segment_bits true len word
+highest-shown word len few =
+    let at : ℕ → ℕ → ℕ = λ b i. b - 1 - i in
+    let long = length-element_bits 64 at word in
+    let short = length-element_bits len at word in
+    let size = length-drop (64 - len) (element_bits 64 at word) in
+    last-shown at word len few
+    ∙ same_lists (drop (64 - len) (element_bits 64 at word)) (element_bits len at word) (omega arith) (λ i d below.
+    let place : 64 - 1 - (64 - len + i) ≡ len - 1 - i = omega arith in
+    get_or-drop (64 - len) (element_bits 64 at word) i d
+    ∙ get-element_bits 64 at word (64 - len + i) d (omega arith)
+    ∙ ap (λ (n : ℕ). bit_at word n == 1) place
+    ∙ sym (get-element_bits len at word i d (omega arith)))
+
+pub lowest-shown : (word len : ℕ) → len ≤ 64 → (shown 64 (λ b i. i) (λ word. word) (word ∷ []) 0 len).bits ≡ segment_bits false len word
+lowest-shown word len few =
+    let at : ℕ → ℕ → ℕ = λ b i. i in
+    let long = length-element_bits 64 at word in
+    let short = length-element_bits len at word in
+    let size = length-take-le len (element_bits 64 at word) (omega arith) in
+    first-shown at word len few
+    ∙ same_lists (take len (element_bits 64 at word)) (element_bits len at word) (omega arith) (λ i d below.
+    get_or-take len (element_bits 64 at word) i d (omega arith)
+    ∙ get-element_bits 64 at word i d (omega arith)
+    ∙ sym (get-element_bits len at word i d (omega arith)))
 
 -- a call that is refused only where there is no memory is granted where there is
 pub granted : {E : Type 0} (result : Result (Unit {0}) E) (bits more same : List Bool) (capacity n : ℕ) → n ≤ capacity → OnErr result (capacity < n)

@@ -15,7 +15,8 @@ use Rattle.bitvec_slice.specs.SeenLaws.{length-memory}
 use Rattle.bitvec_owned.specs.Fronts.{LeavesFront}
 use Rattle.bitvec_owned.specs.Owned.{rest_bits}
 use Rattle.bitvec_owned.proofs.FrontLists.{cut-front, cut-zeros}
-use Rattle.bitvec_owned.proofs.Fronts.{fewest, times}
+use Rattle.bitvec_owned.proofs.Fronts.{times}
+use Rattle.bitvec_owned.proofs.Rooms.{fewest}
 
 -- behind a list came values that are the same; so became its last ones, from the place `end` on, and then all are 0 behind so many
 module _ (old first new : List Bool) (end count r : ℕ) (bit : Bool) (inside : end ≤ length old) (fits : end + count ≤ length old + r)
@@ -118,7 +119,7 @@ module _ {T : Type 0} (b : ℕ) (at : ℕ → ℕ → ℕ) (value : T → ℕ) (
         let d = total - length old in
         let below = div_ceil_times end b some in
         let above = div_ceil_times (end + count) b some in
-        let fewer : div_ceil end b ≤ total = fewest b at value some end total (omega arith) in
+        let fewer : div_ceil end b ≤ total = fewest b some end total (omega arith) in
         let rest : total - n ≡ d = ap (λ (k : ℕ). total - k) size in
         let order : length old ≤ total = rw (← size, touched) fewer in
         let both : length between ≡ total =

@@ -15,10 +15,16 @@ use Rattle.bitvec_slice.specs.Seen.{shown}
 use Rattle.bitvec_slice.specs.SeenLaws.{length-memory, length_bits}
 use Rattle.bitvec_owned.specs.Copies.{Holds, KeepsAround}
 use Rattle.bitvec_owned.specs.Fronts.{LeavesFront}
+use Rattle.bitvec_owned.proofs.Rooms.{fewest}
 use Rattle.bitvec_owned.proofs.FrontLists.{cut-front, cut-zeros, grown-front, grown-zeros, taken-front, taken-zeros, write_around, zeros_before, zeros_behind}
 
 pub times : (b x d c : ℕ) → x + d ≡ c → b * x + b * d ≡ b * c
 times b x d c is = rw (← is) (omega arith)
+
+-- the numbers of elements that are 0
+pub numbers : {T : Type 0} (value : T → ℕ) (none : T) (n : ℕ) → value none ≡ 0 → map value (replicate n none) ≡ replicate n 0
+numbers value none zero is = refl
+numbers value none (suc n) is = rw (is, numbers value none n is) refl
 
 module _ {T : Type 0} (b : ℕ) (at : ℕ → ℕ → ℕ) (value : T → ℕ) (some : 0 < b) where
   abbrev bits_of : List T → List Bool
@@ -35,16 +41,12 @@ module _ {T : Type 0} (b : ℕ) (at : ℕ → ℕ → ℕ) (value : T → ℕ) (
       ∙ memory-range b at xs 0 n some (omega arith) (omega arith)
       ∙ rw (first, last) (between_from_start (memory_bits b at xs) (b * n))
 
-  zeros : (none : T) (n : ℕ) → value none ≡ 0 → map value (replicate n none) ≡ replicate n 0
-  zeros none zero is = refl
-  zeros none (suc n) is = rw (is, zeros none n is) refl
-
   pub bits-more : (none : T) (elements : List T) (n : ℕ) → value none ≡ 0 → bits_of (elements ++ replicate n none) ≡ bits_of elements ++ replicate (b * n) false
   bits-more none elements n is =
       let xs = map value elements in
       let ys : List ℕ = replicate n 0 in
       let many = length-replicate {A = ℕ} n 0 in
-      ap (memory_bits b at) (map-append value elements (replicate n none) ∙ ap (λ (l : List ℕ). xs ++ l) (zeros none n is))
+      ap (memory_bits b at) (map-append value elements (replicate n none) ∙ ap (λ (l : List ℕ). xs ++ l) (numbers value none n is))
       ∙ memory-append b at xs ys some
       ∙ ap (λ (l : List Bool). memory_bits b at xs ++ l) (bits-zeros b at ys (rw many refl) ∙ rw many refl)
 
@@ -140,13 +142,6 @@ module _ {T : Type 0} (b : ℕ) (at : ℕ → ℕ → ℕ) (value : T → ℕ) (
 
   -- ---- what edits of elements leave
 
-  -- so many bits touch no more elements than there are
-  pub fewest : (end n : ℕ) → end ≤ b * n → div_ceil end b ≤ n
-  fewest end n inside =
-      let rounded = div_ceil_times end b some in
-      let less : div_ceil end b < n + 1 = lt_of_mul-lt-mul_right b (omega arith) in
-      omega arith
-
   -- elements that are 0 were added, and a list was written
   grown_from : (none : T) (old between new : List T) (end : ℕ) (list : List Bool) → value none ≡ 0 → end ≤ b * length old
       → between ≡ old ++ replicate (div_ceil (end + length list) b - length old) none → length old ≤ div_ceil (end + length list) b → length new ≡ length between
@@ -173,7 +168,7 @@ module _ {T : Type 0} (b : ℕ) (at : ℕ → ℕ → ℕ) (value : T → ℕ) (
   grown none old between new end more n list is size touched long added many wrote =
       let below = div_ceil_times end b some in
       let above = div_ceil_times (end + more) b some in
-      let fewer : div_ceil end b ≤ div_ceil (end + more) b = fewest end (div_ceil (end + more) b) (omega arith) in
+      let fewer : div_ceil end b ≤ div_ceil (end + more) b = fewest b some end (div_ceil (end + more) b) (omega arith) in
       let inside : end ≤ b * length old = rw (← size, touched) (omega arith) in
       grown_from none old between new end list is inside (rw (← long, ← size) added) (rw (← long, ← size, touched) fewer) many wrote
 
@@ -185,7 +180,7 @@ module _ {T : Type 0} (b : ℕ) (at : ℕ → ℕ → ℕ) (value : T → ℕ) (
       let size = length-memory b at value old in
       let front : length (take end (bits_of old)) ≡ end = length-take-le end (bits_of old) (omega arith) in
       let rounded = div_ceil_times end b some in
-      let few : count ≤ length old = fewest end (length old) inside in
+      let few : count ≤ length old = fewest b some end (length old) inside in
       let total : length new ≡ count = many ∙ ap length fewer ∙ length-take-le count old few in
       let product : b * length new ≡ b * count = ap (λ (k : ℕ). b * k) total in
       let product_fits : b * count ≤ b * length old = mul-le-mul_left b few in
@@ -205,7 +200,7 @@ module _ {T : Type 0} (b : ℕ) (at : ℕ → ℕ → ℕ) (value : T → ℕ) (
       let size = length-memory b at value old in
       let front : length (take last (bits_of old)) ≡ last = length-take-le last (bits_of old) (omega arith) in
       let rounded = div_ceil_times last b some in
-      let few : count ≤ length old = fewest last (length old) (omega arith) in
+      let few : count ≤ length old = fewest b some last (length old) (omega arith) in
       let total : length new ≡ count = ap length fewer ∙ length-take-le count between (omega arith) in
       let product : b * length new ≡ b * count = ap (λ (k : ℕ). b * k) total in
       let product_fits : b * count ≤ b * length old = mul-le-mul_left b few in

@@ -1,5 +1,5 @@
 -- Elements that were 0, and into which a list was written.
-use Rattle.std.specs.Prelude.{◌≡◌, ℕ, zero, suc, ◌+◌, ◌*◌, ◌<◌, ◌≤◌, Bool, false, List, [], length, map, replicate, refl}
+use Rattle.std.specs.Prelude.{◌≡◌, ℕ, ◌+◌, ◌*◌, ◌<◌, ◌≤◌, Bool, false, List, [], length, map, replicate, refl}
 use Rattle.std.specs.Int.{div_ceil}
 use Rattle.std.proofs.Common.{◌∙◌, ap, arith, sym}
 use Rattle.std.proofs.Math.Nat.{lt_of_mul-lt-mul_right}
@@ -10,18 +10,15 @@ use Rattle.bitvec_base.specs.Memory.{memory_bits}
 use Rattle.bitvec_base.specs.Window.{window_of, write_at}
 use Rattle.bitvec_base.specs.WriteLaws.{range-write_at, write_at-nil}
 use Rattle.bitvec_slice.specs.Seen.{Seen, shown}
+use Rattle.bitvec_owned.proofs.Fronts.{numbers}
 use Rattle.bitvec_owned.specs.Copies.{Holds}
 
 module _ {T : Type 0} (b : ℕ) (at : ℕ → ℕ → ℕ) (value : T → ℕ) (some : 0 < b) where
-  numbers : (none : T) (n : ℕ) → value none ≡ 0 → map value (replicate n none) ≡ replicate n 0
-  numbers none zero is = refl
-  numbers none (suc n) is = rw (is, numbers none n is) refl
-
   -- the bits of elements that are all 0
   zeros : (none : T) (n : ℕ) → value none ≡ 0 → memory_bits b at (map value (replicate n none)) ≡ replicate (b * n) false
   zeros none n is =
       let long : length (replicate n 0) ≡ n = length-replicate {A = ℕ} n 0 in
-      rw (numbers none n is) (rw long at (bits-zeros b at (replicate n 0) (rw long refl)))
+      rw (numbers value none n is) (rw long at (bits-zeros b at (replicate n 0) (rw long refl)))
 
   holds : (elements : List T) (from n : ℕ) (list : List Bool) → n ≡ length list → length elements ≡ div_ceil (from + n) b
       → memory_bits b at (map value elements) ≡ write_at (replicate (b * length elements) false) from list → Holds b list from (shown b at value elements from n)

@@ -6,3 +6,4 @@ mod Held
 mod Kept
 mod Middles
 mod Repeats
+mod Rooms

@@ -9,5 +9,6 @@ pub mod Lending
 pub mod Owned
 pub mod Retained
 pub mod RetainedLaws
+pub mod SequenceLaws
 pub mod Writes
 pub mod WritesLaws

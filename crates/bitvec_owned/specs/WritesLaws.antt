@@ -1,7 +1,8 @@
 -- What an owned sequence shows, and what it is after its elements were written in its window.
-use Rattle.std.specs.Prelude.{◌≡◌, ℕ, ◌+◌, ◌*◌, ◌<◌, ◌≤◌, Bool, false, List, ◌++◌, drop, length, map, replicate, take, refl}
+use Rattle.std.specs.Prelude.{◌≡◌, ℕ, ◌+◌, ◌-◌, ◌*◌, ◌/◌, ◌<◌, ◌≤◌, Bool, false, List, ◌++◌, drop, length, map, min, replicate, take, refl, vec_capacity, vec_len}
 use Rattle.std.specs.Int.{div_ceil}
 use Rattle.std.proofs.Common.{arith, sym, subst, ◌∙◌, ap}
+use Rattle.std.proofs.Math.Nat.{le-div_iff_mul-le, mul-le-mul_left}
 use Rattle.std.proofs.lemmas.Grind.{div_ceil_times}
 use Rattle.std.proofs.lemmas.List.{length-map, length-replicate, take_at}
 use Rattle.bitvec_base.specs.Memory.{Writes, memory_bits}
@@ -16,7 +17,7 @@ use Rattle.bitvec_slice.specs.Showing.{ShowsElements, shows_elements}
 use Rattle.bitvec_store.specs.declared.store.BitStore.{Ghosts as Store}
 use Rattle.bitvec_owned.specs.Copies.{Holds}
 use Rattle.bitvec_owned.specs.Lending.{with_elements}
-use Rattle.bitvec_owned.specs.Owned.{owned}
+use Rattle.bitvec_owned.specs.Owned.{bit_capacity, owned, usable_bits}
 use Rattle.bitvec_owned.specs.Writes.{WritesOwned}
 use Rattle.bitvec_owned.specs.declared.bit_vec.BitVec.{BitVec}
 
@@ -26,6 +27,15 @@ same_length f xs ys same = let first = length-map xs f in let second = length-ma
 
 pub refilled : {X : Type 0} (xs old : List X) (n : ℕ) → length xs ≡ n → take n (xs ++ drop (length xs) old) ≡ xs
 refilled xs old n long = take_at xs (drop (length xs) old) n long
+
+-- elements for which there is memory hold the bits that touch them
+pub held-usable : (b end n capacity : ℕ) → 0 < b → n ≡ div_ceil end b → n ≤ capacity → b * n ≤ max_bits → end ≤ usable_bits b capacity
+held-usable b end n capacity some touched room bounded =
+    let rounded = div_ceil_times end b some in
+    let few : n ≤ max_bits / b = (le-div_iff_mul-le some).1 (omega arith) in
+    let product = mul-le-mul_left {m = n} {n = min capacity (max_bits / b)} b (omega arith) in
+    let all : b * div_ceil end b ≤ b * min capacity (max_bits / b) = rw (← touched) product in
+    omega arith
 
 module _ {T : Type 0} (b : ℕ) (at : ℕ → ℕ → ℕ) (value : T → ℕ) (old new : List T) (start len : ℕ) (list : List Bool) (inside : start + len ≤ b * length old)
     (wrote : Writes b at (map value old) (map value new) (shown b at value old start len).window list) where
@@ -76,6 +86,12 @@ module _ {T O A : Type 0} {t : Store T} {o : Order O} (some : 0 < t.BITS) (v : B
 
   pub length-owned : length (owned v).bits ≡ v.len
   length-owned = length_bits t.BITS o.at t.value v.elements.items v.head v.len inside
+
+  -- it has memory for its bits
+  pub owned-room : (owned v).window.len ≤ bit_capacity v
+  owned-room =
+      let held = held-usable t.BITS (v.head + v.len) (vec_len v.elements) (vec_capacity v.elements) some v.touched v.elements.ok.1 v.bounded in
+      omega arith
 
   pub sequence_elements : ShowsElements t.BITS o.at t.value (owned v)
   sequence_elements =

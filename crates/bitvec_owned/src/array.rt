@@ -71,7 +71,8 @@ impl<T: BitStore, O: BitOrder, const N: usize> BitArray<T, O, N> {
 
     /// A view of the bits.
     pub fn as_bitslice(&self) -> BitSlice<'_, T, O>
-        ensures { seen result ≡ in_array self.now }
+        ensures view { seen result ≡ in_array self.now }
+        ensures bits { (seen result).bits ≡ (in_array self.now).bits }
     {
         BitSlice::from_parts(self.elements.as_slice(), 0, N * (T::BITS as usize))
     }

@@ -39,6 +39,7 @@ impl<T: BitStore, O: BitOrder, A: Allocator> BitVec<T, O, A> {
         requires fits { T.BITS * vec_len elements ≤ max_bits }
         ensures shows { owned result ≡ shown T.BITS O.at T.value elements.items head len }
         ensures capacity { bit_capacity result ≡ usable_bits T.BITS (vec_capacity elements) - head }
+        ensures room { (owned result).window.len ≤ bit_capacity result }
     {
         BitVec {
             elements,
@@ -50,7 +51,8 @@ impl<T: BitStore, O: BitOrder, A: Allocator> BitVec<T, O, A> {
 
     /// A view of the bits.
     pub fn as_bitslice(&self) -> BitSlice<'_, T, O>
-        ensures { seen result ≡ owned self.now }
+        ensures view { seen result ≡ owned self.now }
+        ensures bits { (seen result).bits ≡ (owned self.now).bits }
     {
         BitSlice::from_parts(self.elements.as_slice(), self.head, self.len)
     }
@@ -99,9 +101,10 @@ impl<T: BitStore, O: BitOrder, A: Allocator> BitVec<T, O, A> {
         self.elements.as_mut_slice()
     }
 
-    /// Ends the sequence, and gives its elements: `into_vec` of `bitvec`.
+    /// Ends the sequence, and gives its elements with all their memory: `into_vec` of `bitvec`.
     pub fn into_elements(self) -> Vec<T, A>
-        ensures { result.items ≡ (owned self).elements }
+        ensures elements { result.items ≡ (owned self).elements }
+        ensures capacity { bit_capacity self ≡ usable_bits T.BITS (vec_capacity result) - (owned self).window.start }
     {
         let BitVec {
             elements,

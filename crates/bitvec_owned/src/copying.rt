@@ -1,7 +1,7 @@
 //! Copies of views.
-ghost use Rattle.std.specs.Prelude.{◌≡◌, IfOk, IsOk, replicate, vec_len};
+ghost use Rattle.std.specs.Prelude.{◌≡◌, ◌≤◌, IfOk, IsOk, replicate, vec_len};
 ghost use Rattle.bitvec_owned.specs.Copies.{Holds, copy_start};
-ghost use Rattle.bitvec_owned.specs.Owned.{owned};
+ghost use Rattle.bitvec_owned.specs.Owned.{bit_capacity, owned};
 ghost use Rattle.bitvec_slice.specs.Views.{seen};
 
 use crate::BitVec;
@@ -19,6 +19,7 @@ pub(crate) fn copy_of<T: BitStore, O: SliceOrder, A: Allocator>(
 ) -> Result<BitVec<T, O, A>, AllocError>
     ensures copy { IfOk result (λ copy. Holds T.BITS (seen view.entry).bits
         (copy_start T.BITS (seen view.entry).window) (owned copy)) }
+    ensures capacity { IfOk result (λ copy. (owned copy).window.len ≤ bit_capacity copy) }
     ensures none { (seen view.entry).window.len ≡ 0 → IsOk result }
 {
     let from = view.window();

@@ -5,6 +5,7 @@ mod elements;
 mod ends;
 mod making;
 mod middle;
+mod numbers;
 mod parting;
 mod retaining;
 mod walking;

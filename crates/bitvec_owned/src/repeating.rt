@@ -4,7 +4,7 @@ ghost use Rattle.std.specs.List.{repeat};
 ghost use Rattle.bitvec_base.specs.Memory.{memory_bits};
 ghost use Rattle.bitvec_base.specs.Window.{max_bits, write_at};
 ghost use Rattle.bitvec_owned.specs.Copies.{Holds};
-ghost use Rattle.bitvec_owned.specs.Owned.{owned};
+ghost use Rattle.bitvec_owned.specs.Owned.{bit_capacity, owned};
 ghost use Rattle.bitvec_owned.specs.declared.repeating.RepeatError.TheVariants.{TooLong};
 ghost use Rattle.bitvec_slice.specs.Views.{seen};
 
@@ -34,6 +34,7 @@ pub(crate) fn repeat_of<T: BitStore, O: SliceOrder, A: Allocator>(
 ) -> Result<BitVec<T, O, A>, RepeatError>
     ensures long { IsErrOf result TooLong ↔ (max_bits < (seen view.entry).window.len * copies) }
     ensures copy { IfOk result (λ copy. Holds T.BITS (repeat copies (seen view.entry).bits) 0 (owned copy)) }
+    ensures capacity { IfOk result (λ copy. (owned copy).window.len ≤ bit_capacity copy) }
     ensures none { (seen view.entry).window.len * copies ≡ 0 → IsOk result }
 {
     let total = view.len().saturating_mul(copies);

@@ -1,9 +1,9 @@
 //! Views, and owned sequences, are copied and repeated.
-ghost use Rattle.std.specs.Prelude.{◌≡◌, ◌*◌, ◌<◌, ◌↔◌, IfOk, IsErrOf, IsOk};
+ghost use Rattle.std.specs.Prelude.{◌≡◌, ◌*◌, ◌<◌, ◌≤◌, ◌↔◌, IfOk, IsErrOf, IsOk};
 ghost use Rattle.std.specs.List.{repeat};
 ghost use Rattle.bitvec_base.specs.Window.{max_bits};
 ghost use Rattle.bitvec_owned.specs.Copies.{Holds, copy_start};
-ghost use Rattle.bitvec_owned.specs.Owned.{owned};
+ghost use Rattle.bitvec_owned.specs.Owned.{bit_capacity, owned};
 ghost use Rattle.bitvec_owned.specs.declared.repeating.RepeatError.TheVariants.{TooLong};
 
 use crate::copying::copy_of;
@@ -23,6 +23,7 @@ pub trait ToBitVec<T: BitStore, O: SliceOrder>: View<T, O> {
     final fn to_bitvec<A: Allocator>(&self, alloc: A) -> Result<BitVec<T, O, A>, AllocError>
         ensures copy { IfOk result (λ copy. Holds T.BITS (Self.shows self.now).bits
             (copy_start T.BITS (Self.shows self.now).window) (owned copy)) }
+        ensures capacity { IfOk result (λ copy. (owned copy).window.len ≤ bit_capacity copy) }
         ensures none { (Self.shows self.now).window.len ≡ 0 → IsOk result }
     {
         copy_of(self.as_bitslice(), alloc)
@@ -33,6 +34,7 @@ pub trait ToBitVec<T: BitStore, O: SliceOrder>: View<T, O> {
     final fn to_vec<A: Allocator>(&self, alloc: A) -> Result<BitVec<T, O, A>, AllocError>
         ensures copy { IfOk result (λ copy. Holds T.BITS (Self.shows self.now).bits
             (copy_start T.BITS (Self.shows self.now).window) (owned copy)) }
+        ensures capacity { IfOk result (λ copy. (owned copy).window.len ≤ bit_capacity copy) }
         ensures none { (Self.shows self.now).window.len ≡ 0 → IsOk result }
     {
         copy_of(self.as_bitslice(), alloc)
@@ -48,6 +50,7 @@ pub trait ToBitVec<T: BitStore, O: SliceOrder>: View<T, O> {
     ) -> Result<BitVec<T, O, A>, RepeatError>
         ensures long { IsErrOf result TooLong ↔ (max_bits < (Self.shows self.now).window.len * copies) }
         ensures copy { IfOk result (λ copy. Holds T.BITS (repeat copies (Self.shows self.now).bits) 0 (owned copy)) }
+        ensures capacity { IfOk result (λ copy. (owned copy).window.len ≤ bit_capacity copy) }
         ensures none { (Self.shows self.now).window.len * copies ≡ 0 → IsOk result }
     {
         repeat_of(self.as_bitslice(), alloc, copies)

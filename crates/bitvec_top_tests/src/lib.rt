@@ -1,5 +1,5 @@
-//! What stands on top: runs of commands on worked rows, the program on streams and memory that fail, operations and
-//! runs that test their arguments, and packed records. The commands themselves are compared with a model in `golden/`.
+//! What stands on top: runs of commands on worked rows, the program on streams and memory that fail, and operations and
+//! runs that test their arguments. The commands themselves are compared with a model in `golden/`.
 #![tactic(auto)]
 
 /// The steps of a table of rows: from, up to, and the command.
@@ -17,25 +17,13 @@ mod checked_runs;
 #[cfg(test)]
 mod field_memory;
 #[cfg(test)]
-mod field_rows_lsb0;
-#[cfg(test)]
-mod field_rows_msb0;
+mod field_rows;
 #[cfg(test)]
 mod program;
 #[cfg(test)]
 mod program_memory;
 #[cfg(test)]
 mod program_streams;
-#[cfg(test)]
-mod record_coding;
-#[cfg(test)]
-mod record_headers;
-#[cfg(test)]
-mod record_laws;
-#[cfg(test)]
-mod record_memory;
-#[cfg(test)]
-mod records;
 #[cfg(test)]
 mod run_costs;
 #[cfg(test)]

@@ -46,16 +46,6 @@ fn gives(kind: usize, from: usize, to: usize) -> bool {
 }
 
 #[test]
-fn into_part_leaves_the_other_elements(rt: HostRuntime) {
-    assert!(rt; gives(0, 8, 12));
-}
-
-#[test]
-fn into_bit_leaves_the_other_elements(rt: HostRuntime) {
-    assert!(rt; gives(1, 18, 19));
-}
-
-#[test]
-fn index_mut_leaves_the_other_elements(rt: HostRuntime) {
-    assert!(rt; gives(2, 16, 21));
+fn what_is_given_leaves_the_other_elements(rt: HostRuntime) {
+    assert!(rt; gives(0, 8, 12) && gives(1, 18, 19) && gives(2, 16, 21));
 }

@@ -6,26 +6,6 @@ use bitvec_query::BitQueries;
 use bitvec_slice::{BitSlice, BitSliceMut, from_mut, from_ref};
 
 #[test]
-fn an_empty_view_has_no_bit(rt: HostRuntime) {
-    assert!(rt; BitSlice::<u8, Lsb0>::empty().is_empty());
-    assert!(rt;
-        BitSlice::<u8, Lsb0>::default().is_empty() && BitSliceMut::<u8, Lsb0>::default().is_empty()
-    );
-    assert!(rt;
-        BitSlice::<u8, Lsb0>::from_slice(&[]).len() == 0
-            && BitSliceMut::<u8, Lsb0>::empty_mut().is_empty()
-    );
-}
-
-#[test]
-fn an_element_is_viewed_in_its_order(rt: HostRuntime) {
-    let view = BitSlice::<u8, Lsb0>::from_element(&0xF1);
-    assert!(rt; view.last_zero() == Some(3));
-    let view = from_ref::<u32, Lsb0>(&0x8000_0000);
-    assert!(rt; (view.len(), view.first_one()) == (32, Some(31)));
-}
-
-#[test]
 fn an_element_is_written_through_its_view(rt: HostRuntime) {
     let mut byte = 0xFFu8;
     {
@@ -47,17 +27,6 @@ fn found<E: Drop>(view: Result<BitSlice<'_, u8, Lsb0>, E>) -> Option<(usize, Opt
     }
 }
 
-#[test]
-fn a_slice_that_is_short_enough_is_viewed(rt: HostRuntime) {
-    let elements = [0x0Fu8, 0x01];
-    let view = BitSlice::<u8, Lsb0>::try_from_slice(&elements);
-    assert!(rt; found(view) == Some((16, Some(8))));
-    let view: Result<BitSlice<'_, u8, Lsb0>, &[u8]> = BitSlice::try_from(&elements[..]);
-    assert!(rt; found(view) == Some((16, Some(8))));
-    let view = BitSlice::<u8, Lsb0>::from_slice_unchecked(&elements);
-    assert!(rt; view.into_slice().len() == 2);
-}
-
 /// Fills the elements, and flips their bits, if they can be viewed.
 fn fill_and_invert(elements: &mut [u16]) {
     if let Ok(mut view) = BitSliceMut::<u16, Lsb0>::try_from_slice_mut(elements) {
@@ -70,7 +39,14 @@ fn fill_and_invert(elements: &mut [u16]) {
 }
 
 #[test]
-fn a_slice_that_is_short_enough_is_written(rt: HostRuntime) {
+fn a_slice_that_is_short_enough_is_viewed_and_written(rt: HostRuntime) {
+    let elements = [0x0Fu8, 0x01];
+    let view = BitSlice::<u8, Lsb0>::try_from_slice(&elements);
+    assert!(rt; found(view) == Some((16, Some(8))));
+    let view: Result<BitSlice<'_, u8, Lsb0>, &[u8]> = BitSlice::try_from(&elements[..]);
+    assert!(rt; found(view) == Some((16, Some(8))));
+    let view = BitSlice::<u8, Lsb0>::from_slice_unchecked(&elements);
+    assert!(rt; view.into_slice().len() == 2);
     let mut elements = [3u16, 5];
     fill_and_invert(&mut elements);
     assert!(rt; elements == [0, 0]);
@@ -80,7 +56,19 @@ fn a_slice_that_is_short_enough_is_written(rt: HostRuntime) {
 }
 
 #[test]
-fn the_constants_are_the_crates(rt: HostRuntime) {
+fn views_of_nothing_and_of_one_element(rt: HostRuntime) {
+    let empty = [
+        BitSlice::<u8, Lsb0>::default().is_empty(),
+        BitSliceMut::<u8, Lsb0>::default().is_empty(),
+        BitSlice::<u8, Lsb0>::from_slice(&[]).len() == 0,
+        BitSliceMut::<u8, Lsb0>::empty_mut().is_empty(),
+    ];
+    assert!(rt; empty == [true; 4]);
+    assert!(rt; BitSlice::<u8, Lsb0>::empty().is_empty());
+    let view = BitSlice::<u8, Lsb0>::from_element(&0xF1);
+    assert!(rt; view.last_zero() == Some(3));
+    let view = from_ref::<u32, Lsb0>(&0x8000_0000);
+    assert!(rt; (view.len(), view.first_one()) == (32, Some(31)));
     let most = (
         BitSlice::<u8, Lsb0>::MAX_BITS,
         BitSlice::<u8, Lsb0>::MAX_ELTS,

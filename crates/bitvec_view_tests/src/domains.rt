@@ -61,19 +61,6 @@ fn an_enclave_is_written_alone(rt: HostRuntime) {
     }
 }
 
-#[test]
-fn an_enclave_has_its_bits_alone(rt: HostRuntime) {
-    let elements = [0xB4u8];
-    let view = BitSlice::<u8, Lsb0>::from_slice(&elements).into_part(2..6);
-    match view.domain().enclave() {
-        Some(part) => {
-            let read = (part.load_value(), part.head(), part.tail(), part.mask());
-            assert!(rt; read == (0x34, 2, 6, 0x3C));
-        }
-        None => assert!(rt; false),
-    }
-}
-
 /// The whole elements of a domain that has no parts of elements.
 fn whole_elements<'a>(domain: Domain<'a, u8, Msb0>) -> Option<&'a [u8]> {
     match domain.region() {
@@ -82,37 +69,12 @@ fn whole_elements<'a>(domain: Domain<'a, u8, Msb0>) -> Option<&'a [u8]> {
     }
 }
 
-#[test]
-fn a_writable_view_shows_its_elements(rt: HostRuntime) {
-    let mut elements = [0u8, 0xFF, 0];
-    let view = BitSliceMut::<u8, Msb0>::from_slice_mut(&mut elements);
-    assert!(rt; whole_elements(view.domain()) == Some([0, 0xFF, 0].as_slice()));
-    assert!(rt; view.bit_domain().enclave().is_none());
-}
-
-#[test]
-fn values_and_parts_come_from_both_ends(rt: HostRuntime) {
-    let elements = [0xFFu8, 0x12, 0xFF];
-    let view = BitSlice::<u8, Lsb0>::from_slice(&elements).into_part(4..20);
-    assert!(rt; view.domain().into_iter().next() == Some(0xF0));
-    assert!(rt; view.domain().values().next_back() == Some(0x0F));
-    let mut parts = view.bit_domain().parts();
-    assert!(rt; parts.next().is_some() && parts.next_back().is_some());
-}
-
 /// Flips the parts of the bits 4 up to 20, each in turn.
 fn flip_each_part(elements: &mut [u8; 3]) {
     let mut view = BitSliceMut::<u8, Lsb0>::from_slice_mut(elements).into_part(4..20);
     for mut part in view.bit_domain_mut() {
         part.invert();
     }
-}
-
-#[test]
-fn parts_are_written_in_a_loop(rt: HostRuntime) {
-    let mut elements = [0u8; 3];
-    flip_each_part(&mut elements);
-    assert!(rt; elements == [0xF0, 0xFF, 0x0F]);
 }
 
 /// Whether walks over the elements of a domain give nothing behind their end.
@@ -135,4 +97,37 @@ fn parts_stay_ended(view: BitSlice<'_, u8, Lsb0>) -> bool {
 fn nothing_comes_behind_the_end_of_a_domain(rt: HostRuntime) {
     let view = BitSlice::<u8, Lsb0>::from_slice(&[0xFF, 0x12, 0xFF]).into_part(4..20);
     assert!(rt; [values_stay_ended(view), parts_stay_ended(view)] == [true; 2]);
+}
+
+/// The value, the indices and the mask of the part of an element that a view is.
+fn read_part(view: BitSlice<'_, u8, Lsb0>) -> Option<(u8, usize, usize, u8)> {
+    match view.domain().enclave() {
+        Some(part) => Some((part.load_value(), part.head(), part.tail(), part.mask())),
+        None => None,
+    }
+}
+
+#[test]
+fn parts_and_values_are_read(rt: HostRuntime) {
+    let view = BitSlice::<u8, Lsb0>::from_slice(&[0xB4]).into_part(2..6);
+    assert!(rt; read_part(view) == Some((0x34, 2, 6, 0x3C)));
+    let mut elements = [0u8, 0xFF, 0];
+    let view = BitSliceMut::<u8, Msb0>::from_slice_mut(&mut elements);
+    assert!(rt; whole_elements(view.domain()) == Some([0, 0xFF, 0].as_slice()));
+    assert!(rt; view.bit_domain().enclave().is_none());
+}
+
+#[test]
+fn values_and_parts_come_from_both_ends(rt: HostRuntime) {
+    let view = BitSlice::<u8, Lsb0>::from_slice(&[0xFF, 0x12, 0xFF]).into_part(4..20);
+    let ends = [
+        view.domain().into_iter().next(),
+        view.domain().values().next_back(),
+    ];
+    assert!(rt; ends == [Some(0xF0), Some(0x0F)]);
+    let mut parts = view.bit_domain().parts();
+    assert!(rt; parts.next().is_some() && parts.next_back().is_some());
+    let mut elements = [0u8; 3];
+    flip_each_part(&mut elements);
+    assert!(rt; elements == [0xF0, 0xFF, 0x0F]);
 }

@@ -46,15 +46,11 @@ fn counts(parts: (BitSlice<'_, u8, Lsb0>, BitSlice<'_, u8, Lsb0>)) -> [(usize, u
 }
 
 #[test]
-fn a_view_is_read_in_two_parts(rt: HostRuntime) {
+fn views_are_read_in_two_parts(rt: HostRuntime) {
     let elements = [0xF0u8];
     let view = BitSlice::<u8, Lsb0>::from_slice(&elements);
     assert!(rt; counts(view.split_at(4)) == [(4, 0), (4, 4)]);
     assert!(rt; counts(view.split_at_unchecked(5)) == [(5, 1), (3, 3)]);
-}
-
-#[test]
-fn a_writable_view_is_read_in_two_parts(rt: HostRuntime) {
     let mut elements = [0xF0u8];
     let view = BitSliceMut::<u8, Lsb0>::from_slice_mut(&mut elements);
     let (left, right) = view.split_at(4);

@@ -5,7 +5,6 @@ use bitvec_base::{Lsb0, Window};
 use bitvec_edit::BitEdits;
 use bitvec_slice::BitSliceMut;
 use bitvec_test_support::{MEMORIES, bits_of, flipped};
-use std::process::Abort;
 
 /// Flips the bit that a call lends, if it does.
 fn flip_bit(view: &mut BitSliceMut<'_, u8, Lsb0>, kind: usize) {
@@ -81,33 +80,13 @@ fn flip_in(bytes: &mut [u8; 3], kind: usize) -> Window {
     view.window()
 }
 
-/// Asserts that calls, each with its number, lend the bytes' bits from one place up to another, and leave all else.
-fn lends<R: Abort>(rt: &R, rows: &[(usize, usize, usize)]) {
+// Each call by its number lends the bits from one place of the bytes up to another.
+#[test]
+fn what_is_lent_is_flipped_and_all_else_stays(rt: HostRuntime) {
     for bytes in MEMORIES {
-        for (kind, from, to) in rows {
-            let mut after = bytes;
-            let window = flip_in(&mut after, *kind);
-            assert!(rt; bits_of(after) == flipped(bytes, *from, *to), "{kind}");
-            assert!(rt; window == Window { start: 3, len: 18 }, "{kind}");
-        }
-    }
-}
-
-#[test]
-fn first_mut_lends_the_first_bit(rt: HostRuntime) {
-    lends(&rt, &[(0, 3, 4)]);
-}
-
-#[test]
-fn last_mut_lends_the_last_bit(rt: HostRuntime) {
-    lends(&rt, &[(1, 20, 21)]);
-}
-
-#[test]
-fn get_mut_lends_a_bit_or_a_range(rt: HostRuntime) {
-    lends(
-        &rt,
-        &[
+        for (kind, from, to) in [
+            (0, 3, 4),
+            (1, 20, 21),
             (2, 12, 13),
             (3, 0, 0),
             (4, 5, 12),
@@ -116,16 +95,17 @@ fn get_mut_lends_a_bit_or_a_range(rt: HostRuntime) {
             (7, 3, 7),
             (8, 3, 12),
             (9, 3, 21),
-        ],
-    );
-}
-
-#[test]
-fn get_unchecked_mut_lends_what_is_asked_for(rt: HostRuntime) {
-    lends(&rt, &[(10, 9, 10), (11, 15, 21)]);
-}
-
-#[test]
-fn split_apart_mut_lends_both_sides(rt: HostRuntime) {
-    lends(&rt, &[(12, 3, 8), (13, 8, 21), (14, 3, 21), (15, 0, 0)]);
+            (10, 9, 10),
+            (11, 15, 21),
+            (12, 3, 8),
+            (13, 8, 21),
+            (14, 3, 21),
+            (15, 0, 0),
+        ] {
+            let mut after = bytes;
+            let window = flip_in(&mut after, kind);
+            assert!(rt; bits_of(after) == flipped(bytes, from, to), "{kind}");
+            assert!(rt; window == Window { start: 3, len: 18 }, "{kind}");
+        }
+    }
 }

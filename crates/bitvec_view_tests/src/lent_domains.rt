@@ -5,7 +5,6 @@ use bitvec_base::{Lsb0, Window};
 use bitvec_edit::BitEdits;
 use bitvec_slice::{BitDomainMut, BitSliceMut};
 use bitvec_test_support::{MEMORIES, bits_of, flipped};
-use std::process::Abort;
 
 /// Flips a part of the elements that a view touches: the head, the body or the tail.
 fn flip_elements(view: &mut BitSliceMut<'_, u8, Lsb0>, piece: usize) {
@@ -48,24 +47,16 @@ fn flip_in(bytes: &mut [u8; 3], piece: usize, as_elements: bool) -> Window {
     view.window()
 }
 
-/// Asserts that each part is lent, and that all else is left.
-fn lends_each_part<R: Abort>(rt: &R, as_elements: bool) {
+#[test]
+fn each_part_of_a_domain_is_lent(rt: HostRuntime) {
     for bytes in MEMORIES {
         for (piece, from, to) in [(0, 3, 8), (1, 8, 16), (2, 16, 21)] {
-            let mut after = bytes;
-            let window = flip_in(&mut after, piece, as_elements);
-            assert!(rt; bits_of(after) == flipped(bytes, from, to), "{from}");
-            assert!(rt; window == Window { start: 3, len: 18 });
+            for as_elements in [false, true] {
+                let mut after = bytes;
+                let window = flip_in(&mut after, piece, as_elements);
+                assert!(rt; bits_of(after) == flipped(bytes, from, to), "{from}");
+                assert!(rt; window == Window { start: 3, len: 18 });
+            }
         }
     }
-}
-
-#[test]
-fn domain_mut_lends_each_part(rt: HostRuntime) {
-    lends_each_part(&rt, true);
-}
-
-#[test]
-fn bit_domain_mut_lends_each_part(rt: HostRuntime) {
-    lends_each_part(&rt, false);
 }

@@ -11,16 +11,6 @@ use bitvec_store::BitStore;
 use bitvec_test_support::shows;
 use std::alloc::{AllocError, Allocator};
 
-/// The indices of all ones, collected.
-pub fn ones_of<T: BitStore, O: SliceOrder, A: Allocator>(
-    alloc: A,
-    view: BitSlice<'_, T, O>,
-) -> Result<Vec<usize, A>, AllocError>
-    ensures { IfOk result (λ list. list.items ≡ places_of true (seen view.entry).bits) }
-{
-    view.iter_ones().collect(alloc)
-}
-
 /// The indices of all ones, one by one.
 pub fn ones_in_turn<T: BitStore, O: SliceOrder, A: Allocator>(
     alloc: A,
@@ -33,23 +23,6 @@ pub fn ones_in_turn<T: BitStore, O: SliceOrder, A: Allocator>(
         list.push(index)?;
     }
     Ok(list)
-}
-
-#[test]
-fn ones_from_both_ends(rt: HostRuntime) {
-    let elements = [0x21u8];
-    let view = BitSlice::<u8, Lsb0>::from_slice(&elements);
-    let mut ones = view.iter_ones();
-    assert!(rt; (ones.next(), ones.next_back()) == (Some(0), Some(5)));
-    assert!(rt; (ones.next(), ones.next_back()) == (None, None));
-}
-
-#[test]
-fn zeros_from_both_ends(rt: HostRuntime) {
-    let mut elements = [0xF7u8, 0xFE];
-    let view = BitSliceMut::<u8, Msb0>::from_slice_mut(&mut elements);
-    let mut zeros = view.iter_zeros();
-    assert!(rt; (zeros.next_back(), zeros.next()) == (Some(15), Some(4)));
 }
 
 #[test]
@@ -75,6 +48,18 @@ fn holds(list: Result<Vec<usize>, AllocError>, wanted: &[usize]) -> bool {
 fn a_list_of_ones(rt: HostRuntime) {
     let elements = [0x00u8, 0x80, 0x01, 0x01];
     let view = BitSlice::<u8, Lsb0>::from_slice(&elements).into_part(3..30);
-    assert!(rt; holds(ones_of(rt.alloc(), view), &[12, 13, 21]));
     assert!(rt; holds(ones_in_turn(rt.alloc(), view), &[12, 13, 21]));
+}
+
+#[test]
+fn places_from_both_ends(rt: HostRuntime) {
+    let elements = [0x21u8];
+    let view = BitSlice::<u8, Lsb0>::from_slice(&elements);
+    let mut ones = view.iter_ones();
+    assert!(rt; (ones.next(), ones.next_back()) == (Some(0), Some(5)));
+    assert!(rt; ones.next().is_none());
+    let mut elements = [0xF7u8, 0xFE];
+    let view = BitSliceMut::<u8, Msb0>::from_slice_mut(&mut elements);
+    let mut zeros = view.iter_zeros();
+    assert!(rt; (zeros.next_back(), zeros.next()) == (Some(15), Some(4)));
 }

@@ -36,12 +36,8 @@ fn turns_from_both_ends(rt: HostRuntime) {
     let mut zeros = [Some(0); 2];
     let loads = walk::<Lsb0>(&[0xF7], three, false, &[Back, Back], &mut zeros);
     assert!(rt; (zeros, loads <= 2) == ([Some(1), None], true));
-}
-
-#[test]
-fn turns_under_another_order(rt: HostRuntime) {
-    let window = Window { start: 0, len: 8 };
+    let byte = Window { start: 0, len: 8 };
     let mut out = [None; 3];
-    let loads = walk::<HiLo>(&[0xA5], window, true, &[Back, Front, Front], &mut out);
+    let loads = walk::<HiLo>(&[0xA5], byte, true, &[Back, Front, Front], &mut out);
     assert!(rt; (out, loads <= 4) == ([Some(6), Some(1), Some(3)], true));
 }

@@ -67,14 +67,9 @@ fn a_pair_of_bits_is_read_by_get_and_brackets(rt: HostRuntime) {
 
 #[test]
 fn bits_and_ranges_are_there_by_index(rt: HostRuntime) {
-    let elements = [0x12u8];
-    let view = BitSlice::<u8, Lsb0>::from_slice(&elements);
+    let view = BitSlice::<u8, Lsb0>::from_slice(&[0x12]);
     assert!(rt; *4.index(view) && (2..).index(view).len() == 6 && !*view.get_unchecked(3));
     assert!(rt; BitSliceIndex::<BitSlice<u8, Lsb0>>::fits(&2, 3));
-}
-
-#[test]
-fn a_writable_view_is_read_by_brackets(rt: HostRuntime) {
     let mut elements = [0x01u8];
     {
         let view = BitSliceMut::<u8, Lsb0>::from_slice_mut(&mut elements);
@@ -82,10 +77,6 @@ fn a_writable_view_is_read_by_brackets(rt: HostRuntime) {
     }
     let view = BitSliceMut::<u8, Lsb0>::from_slice_mut(&mut elements);
     assert!(rt; view[0] && !view[1] && *view.get_unchecked(2));
-}
-
-#[test]
-fn a_view_says_where_it_stands(rt: HostRuntime) {
     let mut elements = [0u8; 3];
     let view = BitSliceMut::<u8, Lsb0>::from_slice_mut(&mut elements);
     assert!(rt; view.window() == Window { start: 0, len: 24 });

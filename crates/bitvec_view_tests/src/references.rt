@@ -39,15 +39,10 @@ fn reads_alike(bit: &BitRef<'_, u8, Lsb0>) -> bool {
 }
 
 #[test]
-fn a_shared_reference_is_copied_and_printed(rt: HostRuntime) {
-    let elements = [0x12u8];
-    let bit = BitSlice::<u8, Lsb0>::from_slice(&elements).into_bit(1);
+fn references_are_copied_compared_and_printed(rt: HostRuntime) {
+    let bit = BitSlice::<u8, Lsb0>::from_slice(&[0x12]).into_bit(1);
     assert!(rt; reads_alike(&bit));
     assert!(rt; prints(rt.alloc(), &bit, "true") && shows(rt.alloc(), &bit, "true"));
-}
-
-#[test]
-fn writing_references_print_and_compare(rt: HostRuntime) {
     let (mut elements, mut others) = ([0x01u8], [0x03u8]);
     let bit = BitSliceMut::<u8, Lsb0>::from_slice_mut(&mut elements).into_bit(0);
     assert!(rt; prints(rt.alloc(), &bit, "true") && shows(rt.alloc(), &bit, "true"));

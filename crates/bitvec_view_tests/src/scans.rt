@@ -39,25 +39,10 @@ fn answers(view: BitSlice<'_, u8, Lsb0>) -> [bool; 5] {
     ]
 }
 
-#[test]
-fn runs_of_ones_and_zeros(rt: HostRuntime) {
-    let view = BitSlice::<u8, Lsb0>::from_slice(&[0x0B]).into_part(0..5);
-    assert!(rt; runs(view) == [2, 0, 0, 1]);
-    assert!(rt; places(&view) == [Some(0), Some(2), Some(3), Some(4)]);
-    assert!(rt; answers(view) == [true, false, false, true, true]);
-    assert!(rt; answers(BitSlice::empty()) == [false, true, true, false, false]);
-}
-
 /// Where the first and the last of each bit are in two elements alike.
 fn places_of_two(element: u8) -> [Option<usize>; 4] {
     let mut elements = [element; 2];
     places(&BitSliceMut::<u8, Msb0>::from_slice_mut(&mut elements))
-}
-
-#[test]
-fn the_last_of_no_bit_is_none(rt: HostRuntime) {
-    assert!(rt; places_of_two(0xFF) == [Some(0), None, Some(15), None]);
-    assert!(rt; places_of_two(0x00) == [None, Some(0), None, Some(15)]);
 }
 
 /// Where the first 1 of the bits `from` up to `to` and one more is, if none of them but the last is one.
@@ -145,13 +130,6 @@ fn stripped(needle: BitSlice<'_, u8, Lsb0>) -> [Option<(usize, u32)>; 2] {
     ]
 }
 
-#[test]
-fn what_a_needle_leaves_of_five_bits(rt: HostRuntime) {
-    let needles = BitSlice::<u8, Lsb0>::from_slice(&[0x12]);
-    assert!(rt; stripped(needles.into_part(1..3)) == [None, None]);
-    assert!(rt; stripped(needles.into_part(0..2)) == [Some((3, 1)), Some((3, 2))]);
-}
-
 /// Whether what is left of a view has these bits.
 fn is_left(
     rest: Option<BitSlice<'_, u8, Lsb0>>,
@@ -168,18 +146,6 @@ fn part(byte: &[u8; 1], from: usize, to: usize) -> Option<BitSlice<'_, u8, Lsb0>
     BitSlice::from_slice(byte).get(from..to)
 }
 
-// The view is 0, 1, 0, 0, 1, 0, 0, 0.
-#[test]
-fn a_writable_view_is_stripped_of_its_ends(rt: HostRuntime) {
-    let mut elements = [0x12u8];
-    let view = BitSliceMut::<u8, Lsb0>::from_slice_mut(&mut elements);
-    let zero_one = BitSlice::<u8, Lsb0>::from_slice(&[0x02]).into_part(0..2);
-    let rest = view.strip_prefix(zero_one);
-    assert!(rt; is_left(rest, part(&[0x04], 0, 6)) == Some(true));
-    let rest = view.strip_suffix(BitSlice::<u8, Lsb0>::empty());
-    assert!(rt; is_left(rest, part(&[0x12], 0, 8)) == Some(true));
-}
-
 #[test]
 fn views_of_two_lengths_and_orders_are_compared(rt: HostRuntime) {
     let zero_one_zero = BitSlice::<u8, Lsb0>::from_slice(&[0x02]).into_part(0..3);
@@ -188,4 +154,30 @@ fn views_of_two_lengths_and_orders_are_compared(rt: HostRuntime) {
     assert!(rt; zero_one.cmp_bits(zero_one_zero).is_lt() && one.cmp_bits(zero_one).is_gt());
     let view = BitSlice::<u8, Lsb0>::from_slice(&[0x21]);
     assert!(rt; view.eq_bits(BitSlice::<u8, Msb0>::from_slice(&[0x84])));
+}
+
+#[test]
+fn bits_are_found_and_runs_are_counted(rt: HostRuntime) {
+    let view = BitSlice::<u8, Lsb0>::from_slice(&[0x0B]).into_part(0..5);
+    assert!(rt; runs(view) == [2, 0, 0, 1]);
+    assert!(rt; places(&view) == [Some(0), Some(2), Some(3), Some(4)]);
+    assert!(rt; answers(view) == [true, false, false, true, true]);
+    assert!(rt; answers(BitSlice::empty()) == [false, true, true, false, false]);
+    assert!(rt; places_of_two(0xFF) == [Some(0), None, Some(15), None]);
+    assert!(rt; places_of_two(0x00) == [None, Some(0), None, Some(15)]);
+}
+
+// The first view is 0, 1, 0, 0, 1, the writable one 0, 1, 0, 0, 1, 0, 0, 0.
+#[test]
+fn what_a_needle_leaves_of_a_view(rt: HostRuntime) {
+    let needles = BitSlice::<u8, Lsb0>::from_slice(&[0x12]);
+    assert!(rt; stripped(needles.into_part(1..3)) == [None, None]);
+    assert!(rt; stripped(needles.into_part(0..2)) == [Some((3, 1)), Some((3, 2))]);
+    let mut elements = [0x12u8];
+    let view = BitSliceMut::<u8, Lsb0>::from_slice_mut(&mut elements);
+    let zero_one = BitSlice::<u8, Lsb0>::from_slice(&[0x02]).into_part(0..2);
+    let rest = view.strip_prefix(zero_one);
+    assert!(rt; is_left(rest, part(&[0x04], 0, 6)) == Some(true));
+    let rest = view.strip_suffix(BitSlice::<u8, Lsb0>::empty());
+    assert!(rt; is_left(rest, part(&[0x12], 0, 8)) == Some(true));
 }

@@ -5,27 +5,17 @@ use bitvec_slice::{BitSlice, BitSliceMut};
 use bitvec_test_support::{prints, shows};
 
 #[test]
-fn writable_views_print_and_compare(rt: HostRuntime) {
+fn views_and_walks_print_what_is_left(rt: HostRuntime) {
     let (mut elements, mut others) = ([0xA1u8], [0xA1u8]);
     let view = BitSliceMut::<u8, Lsb0>::from_slice_mut(&mut elements);
     let text = "[1, 0, 0, 0, 0, 1, 0, 1]";
     assert!(rt; prints(rt.alloc(), &view, text) && shows(rt.alloc(), &view, text));
     assert!(rt; view == BitSliceMut::from_slice_mut(&mut others));
-}
-
-#[test]
-fn walks_over_bits_print_what_is_left(rt: HostRuntime) {
-    let bits = [0b1101u8];
-    let view = BitSlice::<u8, Lsb0>::from_slice(&bits).into_part(0..5);
+    let view = BitSlice::<u8, Lsb0>::from_slice(&[0b1101]).into_part(0..5);
     let mut walk = view.iter();
     let _first = walk.next();
+    let values = "BitValIter([1, 0, 1, 1, 0])";
     assert!(rt; shows(rt.alloc(), &walk, "Iter([0, 1, 1, 0])"));
     assert!(rt; shows(rt.alloc(), &walk.by_refs(), "BitRefIter([0, 1, 1, 0])"));
-    assert!(rt;
-        shows(
-            rt.alloc(),
-            &view.iter().by_vals(),
-            "BitValIter([1, 0, 1, 1, 0])"
-        )
-    );
+    assert!(rt; shows(rt.alloc(), &view.iter().by_vals(), values));
 }

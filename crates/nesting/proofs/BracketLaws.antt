@@ -9,6 +9,7 @@ use Rattle.std.proofs.lemmas.List.Elements.{All-head, All-tail, filter-append}
 use Rattle.std.proofs.lemmas.List.Folds.{fold_along, fold_stuck}
 use Rattle.std.proofs.lemmas.List.Sums.{fold-append}
 use Rattle.nesting.specs.Brackets.{IsNested, KeepsFront, backed_up, closer, next, next_mended, open_after, open_mended, without_closers}
+use Rattle.nesting.specs.Texts.{Mends}
 
 -- ---- one byte
 
@@ -266,36 +267,37 @@ module _ (text : List ℕ) (i : ℕ) (before : List Bool) (old : List ℕ) (was 
       ap (λ (o : Option (List Bool)). next_mended o (slice_index text i)) was.followed ∙ stray in
       sym (fold_stuck next_mended None next_mended-none (Some []) text i 0 inside none)
 
--- what was read to its end can be mended
-pub mended-mendable : (text : List ℕ) (i : ℕ) (marks : List Bool) (mended : List ℕ) → IsMended (take i text) marks mended → length text ≤ i → open_mended text ≢ None
-mended-mendable text i marks mended was all none =
-    let is : Some marks ≡ None = sym was.followed ∙ ap open_mended (take_all i text all) ∙ none in cc
-
 module _ (text : List ℕ) (i : ℕ) (marks : List Bool) (mended new : List ℕ) (was : IsMended (take i text) marks mended) (all : length text ≤ i) (made : new ≡ mended ++ map closer marks) where
   whole : IsMended text marks mended
   whole = rw (take_all i text all) at was
 
-  pub mended-nested : IsNested new
+  mended-mendable : open_mended text ≢ None
+  mended-mendable none = let is : Some marks ≡ None = sym whole.followed ∙ none in cc
+
+  mended-nested : IsNested new
   mended-nested =
       let closed = open_after-closed (length marks) mended marks whole.nested in
       ap open_after made ∙ rw (take_all (length marks) marks (omega arith), drop_all (length marks) marks (omega arith)) at closed
 
-  pub mended-kept : without_closers new ≡ without_closers text
+  mended-kept : without_closers new ≡ without_closers text
   mended-kept = ap without_closers made ∙ without-closed mended marks ∙ whole.kept
 
-  pub mended-front : KeepsFront text new
+  mended-front : KeepsFront text new
   mended-front = record {
     front = λ n inside some.
         let is = whole.front.front n inside some in
         ap (λ (l : List ℕ). take n l) made ∙ take-append-le n mended (map closer marks) (front-fits n text mended inside is) ∙ is;
   }
 
-  pub mended-same : IsNested text → new ≡ text
+  mended-same : IsNested text → new ≡ text
   mended-same nested =
       let same : mended ≡ text = whole.same (λ none. let is : Some [] ≡ None = sym nested ∙ none in cc) in
       let none : Some marks ≡ Some [] = sym whole.nested ∙ ap open_after same ∙ nested in
       let is : marks ≡ [] = cc in
       made ∙ ap (λ (l : List Bool). mended ++ map closer l) is ∙ append-nil mended ∙ same
+
+  pub mended-whole : Mends text new
+  mended-whole = record { mendable = mended-mendable; nested = mended-nested; kept = mended-kept; front = mended-front; same = mended-same }
 
 -- for `using`
 pub ruleset following = (next-opens_group, next-opens_block, next-other, next-group, next-no_group, block-groups, block-closed, block-least, next_mended-other, next_mended-block, next_mended-groups)
@@ -304,4 +306,4 @@ pub ruleset reading = (read-nested, read-front, read-kept, read-same)
 
 pub ruleset closing = (closed-more, closed-none, closed-end)
 
-pub ruleset mending = (mended-none, mended-next, mended-stray, mended-mendable, mended-nested, mended-kept, mended-front, mended-same)
+pub ruleset mending = (mended-none, mended-stray)

@@ -1,1 +1,3 @@
 pub mod Brackets
+pub mod Faults
+pub mod Texts

@@ -1,6 +1,7 @@
 //! Texts with the brackets that they lack.
 ghost use Rattle.std.specs.Prelude.{◌≡◌, ◌≢◌, ◌⊎◌, [], ◌∷◌, ◌++◌, IfErr, IfOk, None, OnOk, Some, drop, false, length, map, replicate, take};
-ghost use Rattle.nesting.specs.Brackets.{IsNested, KeepsFront, closer, next, next_mended, open_after, open_mended, without_closers};
+ghost use Rattle.nesting.specs.Brackets.{closer, next, next_mended, open_after, open_mended, without_closers};
+ghost use Rattle.nesting.specs.Texts.{Mends};
 ghost use Rattle.nesting.specs.declared.fault.Fault.TheVariants.{Memory, Stray};
 
 use crate::fault::Fault;
@@ -84,11 +85,7 @@ fn close_all(marks: &mut Marks, text: &mut Vec<u8>) -> Result<(), AllocError>
 /// refused.
 #[tactic(auto, using(crate::proofs::BracketLaws::mending))]
 pub fn mended(alloc: Global, text: &[u8]) -> Result<Vec<u8>, Fault>
-    ensures nested { IfOk result (λ mended. IsNested mended.items) }
-    ensures kept { IfOk result (λ mended. without_closers mended.items ≡ without_closers text.now) }
-    ensures front { IfOk result (λ mended. KeepsFront text.now mended.items) }
-    ensures same { IfOk result (λ mended. IsNested text.now → mended.items ≡ text.now) }
-    ensures mendable { OnOk result (open_mended text.now ≢ None) }
+    ensures mended { IfOk result (λ mended. Mends text.now mended.items) }
     ensures fault { IfErr result (λ fault. (fault ≡ Memory) ⊎ ((fault ≡ Stray) × (open_mended text.now ≡ None))) }
 {
     let mut marks = Marks::new(alloc);

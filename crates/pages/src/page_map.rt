@@ -1,5 +1,5 @@
 //! A map of pages.
-ghost use Rattle.std.specs.Prelude.{◌≡◌, ℕ, ◌<◌, IfNone, IfSome, count_by, false, length, slice_index_or, slice_set, true};
+ghost use Rattle.std.specs.Prelude.{◌≡◌, ◌<◌, IfNone, IfSome, count_by, false, replicate, slice_set, true};
 ghost use Rattle.bitvec.specs.Arrays.{lsb0_bits};
 ghost use Rattle.bitvec.specs.Lists.{first_place};
 ghost use Rattle.pages.specs.Pages.{leaf_of};
@@ -54,10 +54,9 @@ fn first_free(leaves: &[u64; 64], leaf: usize) -> Option<usize>
 
 impl PageMap {
     /// A map whose pages are all free.
-    #[tactic(auto, using(bitvec::specs::Laws::bitwise, crate::proofs::PageLaws::summing))]
+    #[tactic(auto, using(bitvec::specs::Laws::zeroed))]
     pub fn new() -> Self
-        ensures len { length result ≡ 4096 }
-        ensures free { (page : ℕ) → slice_index_or result page false ≡ false }
+        ensures { result ≡ replicate 4096 false }
     {
         PageMap {
             leaves: [0; 64],

@@ -14,12 +14,13 @@ use std::alloc::{AllocError, Allocator};
 
 impl<T: BitStore, O: BitOrder, A: Allocator> BitVec<T, O, A> {
     /// Keeps the first `len` bits, or adds as many of `bit` as there are `len` with them. An error where memory is refused,
-    /// and the bits are as before then.
+    /// and the sequence is as before then.
     #[inline]
     pub fn resize(&mut self, len: usize, bit: bool) -> Result<(), AllocError>
         ensures bits { (owned self.new).bits ≡ (if is_ok result
             then take len (owned self.old).bits ++ replicate (len - length (owned self.old).bits) bit else (owned self.old).bits) }
         ensures around { KeepsAround T.BITS (owned self.old) (owned self.new) }
+        ensures same { OnErr result (owned self.new ≡ owned self.old) }
         ensures full { OnErr result (bit_capacity self.old < len) }
         ensures capacity { bit_capacity self.old ≤ bit_capacity self.new }
     {
@@ -33,14 +34,16 @@ impl<T: BitStore, O: BitOrder, A: Allocator> BitVec<T, O, A> {
         Ok(())
     }
 
-    /// Adds the bits of a view of any element type and order. An error where memory is refused, and the bits are as before
-    /// then.
+    /// Adds the bits of a view of any element type and order. An error where memory is refused, and the sequence is as
+    /// before then.
     pub fn extend_from_bitslice<U: BitStore, P: BitOrder>(
         &mut self,
         bits: BitSlice<'_, U, P>,
     ) -> Result<(), AllocError>
         ensures bits { (owned self.new).bits ≡ (if is_ok result then (owned self.old).bits ++ (seen bits.entry).bits else (owned self.old).bits) }
         ensures around { KeepsAround T.BITS (owned self.old) (owned self.new) }
+        ensures len { (owned self.new).window.len ≡ (if is_ok result then (owned self.old).window.len + (seen bits.entry).window.len else (owned self.old).window.len) }
+        ensures same { OnErr result (owned self.new ≡ owned self.old) }
         ensures full { OnErr result (bit_capacity self.old < (owned self.old).window.len + (seen bits.entry).window.len) }
         ensures capacity { bit_capacity self.old ≤ bit_capacity self.new }
     {
@@ -57,6 +60,7 @@ impl<T: BitStore, O: SliceOrder, A: Allocator> BitVec<T, O, A> {
     pub(crate) fn extend_from_block(&mut self, bits: BitSlice<'_, T, O>) -> Result<(), AllocError>
         ensures bits { (owned self.new).bits ≡ (if is_ok result then (owned self.old).bits ++ (seen bits.entry).bits else (owned self.old).bits) }
         ensures around { KeepsAround T.BITS (owned self.old) (owned self.new) }
+        ensures same { OnErr result (owned self.new ≡ owned self.old) }
         ensures full { OnErr result (bit_capacity self.old < (owned self.old).window.len + (seen bits.entry).window.len) }
         ensures capacity { bit_capacity self.old ≤ bit_capacity self.new }
     {
@@ -66,12 +70,13 @@ impl<T: BitStore, O: SliceOrder, A: Allocator> BitVec<T, O, A> {
         Ok(())
     }
 
-    /// Moves the bits of another sequence to the end, and leaves it with none. An error where memory is refused, and the
-    /// bits of both are as before then.
+    /// Moves the bits of another sequence to the end, and leaves it with none. An error where memory is refused, and both
+    /// sequences are as before then.
     pub fn append<B: Allocator>(&mut self, other: &mut BitVec<T, O, B>) -> Result<(), AllocError>
         ensures bits { (owned self.new).bits ≡ (if is_ok result then (owned self.old).bits ++ (owned other.old).bits else (owned self.old).bits) }
         ensures other { (owned other.new).bits ≡ (if is_ok result then [] else (owned other.old).bits) }
         ensures around { KeepsAround T.BITS (owned self.old) (owned self.new) × KeepsAround T.BITS (owned other.old) (owned other.new) }
+        ensures same { OnErr result ((owned self.new ≡ owned self.old) × (owned other.new ≡ owned other.old)) }
         ensures full { OnErr result (bit_capacity self.old < (owned self.old).window.len + (owned other.old).window.len) }
         ensures capacity { (bit_capacity self.old ≤ bit_capacity self.new) × (bit_capacity other.new ≡ bit_capacity other.old) }
     {

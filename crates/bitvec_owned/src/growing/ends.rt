@@ -11,8 +11,8 @@ use bitvec_store::BitStore;
 use std::alloc::{AllocError, Allocator};
 
 impl<T: BitStore, O: BitOrder, A: Allocator> BitVec<T, O, A> {
-    /// Adds a bit at the end. The elements grow as those of a `Vec`: an error where their memory is refused, and the bits
-    /// are as before then.
+    /// Adds a bit at the end. The elements grow as those of a `Vec`: an error where their memory is refused, and the sequence
+    /// is as before then.
     ///
     /// ```
     /// bits.push(true)?;
@@ -21,6 +21,7 @@ impl<T: BitStore, O: BitOrder, A: Allocator> BitVec<T, O, A> {
         ensures bits { (owned self.new).bits ≡ (if is_ok result then (owned self.old).bits ++ bit ∷ [] else (owned self.old).bits) }
         ensures around { KeepsAround T.BITS (owned self.old) (owned self.new) }
         ensures len { (owned self.new).window.len ≡ (if is_ok result then (owned self.old).window.len + 1 else (owned self.old).window.len) }
+        ensures same { OnErr result (owned self.new ≡ owned self.old) }
         ensures full { OnErr result (bit_capacity self.old ≤ (owned self.old).window.len) }
         ensures capacity { bit_capacity self.old ≤ bit_capacity self.new }
     {

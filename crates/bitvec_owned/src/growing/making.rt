@@ -1,5 +1,5 @@
 //! Sequences made of bits, of truth values, and of elements.
-ghost use Rattle.std.specs.Prelude.{◌≡◌, ◌+◌, ◌-◌, ◌*◌, ◌<◌, ◌≤◌, IfOk, IsOk, take, vec_capacity, vec_len};
+ghost use Rattle.std.specs.Prelude.{◌≡◌, ◌+◌, ◌-◌, ◌*◌, ◌<◌, ◌≤◌, IfOk, IsOk, length, replicate, take, vec_capacity, vec_len};
 ghost use Rattle.std.specs.Int.{div_ceil};
 ghost use Rattle.bitvec_base.specs.Window.{max_bits};
 ghost use Rattle.bitvec_owned.specs.Copies.{Holds};
@@ -21,6 +21,7 @@ impl<T: BitStore, O: BitOrder, A: Allocator> BitVec<T, O, A> {
         bits: BitSlice<'_, U, P>,
     ) -> Result<Self, AllocError>
         ensures copy { IfOk result (λ made. Holds T.BITS (seen bits.entry).bits 0 (owned made)) }
+        ensures capacity { IfOk result (λ made. (owned made).window.len ≤ bit_capacity made) }
         ensures none { (seen bits.entry).window.len ≡ 0 → IsOk result }
     {
         let mut made = BitVec::new_in(alloc);
@@ -28,12 +29,27 @@ impl<T: BitStore, O: BitOrder, A: Allocator> BitVec<T, O, A> {
         Ok(made)
     }
 
-    /// The truth values of a slice as bits, from the first place on, up to 64 at a time. An error where memory was refused.
+    /// The truth values of a slice as bits, from the first place on, up to 64 at a time. An error where memory was refused;
+    /// for no truth values none is asked for.
     pub fn from_bools(alloc: A, bools: &[bool]) -> Result<Self, AllocError>
-        ensures { IfOk result (λ made. Holds T.BITS bools.now 0 (owned made)) }
+        ensures copy { IfOk result (λ made. Holds T.BITS bools.now 0 (owned made)) }
+        ensures capacity { IfOk result (λ made. (owned made).window.len ≤ bit_capacity made) }
+        ensures none { length bools.now ≡ 0 → IsOk result }
     {
         let mut made = BitVec::with_capacity_in(alloc, bools.len())?;
-        made.extend(bools.iter().copied())?;
+        made.put_bools(bools);
+        Ok(made)
+    }
+
+    /// So many of one bit, from the first place on: `repeat` of `bitvec`'s `BitVec`. An error where memory was refused, and
+    /// for more than `MAX_BITS` bits; no bits ask for none.
+    pub fn repeat(alloc: A, bit: bool, len: usize) -> Result<Self, AllocError>
+        ensures copy { IfOk result (λ made. Holds T.BITS (replicate len bit) 0 (owned made)) }
+        ensures capacity { IfOk result (λ made. (owned made).window.len ≤ bit_capacity made) }
+        ensures none { len ≡ 0 → IsOk result }
+    {
+        let mut made = BitVec::new_in(alloc);
+        made.resize(len, bit)?;
         Ok(made)
     }
 

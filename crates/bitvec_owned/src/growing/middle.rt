@@ -12,12 +12,13 @@ use std::alloc::{AllocError, Allocator};
 
 impl<T: BitStore, O: SliceOrder, A: Allocator> BitVec<T, O, A> {
     /// Adds a bit before the one at an index, or at the end. Those behind it move by one place, by words. An error where
-    /// memory is refused, and the bits are as before then. Condition: the index is at most `len`.
+    /// memory is refused, and the sequence is as before then. Condition: the index is at most `len`.
     pub fn insert(&mut self, index: usize, bit: bool) -> Result<(), AllocError>
         requires { index ≤ (owned self.old).window.len }
         ensures bits { (owned self.new).bits ≡ (if is_ok result then insert (owned self.old).bits index bit else (owned self.old).bits) }
         ensures around { KeepsAround T.BITS (owned self.old) (owned self.new) }
         ensures len { (owned self.new).window.len ≡ (if is_ok result then (owned self.old).window.len + 1 else (owned self.old).window.len) }
+        ensures same { OnErr result (owned self.new ≡ owned self.old) }
         ensures full { OnErr result (bit_capacity self.old ≤ (owned self.old).window.len) }
         ensures capacity { bit_capacity self.old ≤ bit_capacity self.new }
     {

@@ -1,5 +1,5 @@
-//! Sequences that take the truth values of iterators.
-ghost use Rattle.std.specs.Prelude.{◌≡◌, ◌+◌, ◌-◌, ◌≤◌, ◌++◌, drop};
+//! Sequences that take truth values, of slices and of iterators.
+ghost use Rattle.std.specs.Prelude.{◌≡◌, ◌+◌, ◌-◌, ◌<◌, ◌≤◌, ◌++◌, OnErr, drop, if◌then◌else◌, is_ok, length};
 ghost use Rattle.bitvec_base.specs.Memory.{element_bits};
 ghost use Rattle.bitvec_owned.specs.Copies.{KeepsAround};
 ghost use Rattle.bitvec_owned.specs.Owned.{bit_capacity, owned};
@@ -31,6 +31,41 @@ impl<T: BitStore, O: BitOrder, A: Allocator> BitVec<T, O, A> {
     {
         let word = [word];
         let _ = self.extend_from_bitslice(BitSlice::<u64, Lsb0>::from_parts(&word, 64 - len, len));
+    }
+
+    /// Adds truth values as bits, up to 64 at a time. Condition: there is memory for them.
+    pub(crate) fn put_bools(&mut self, bools: &[bool])
+        requires { (owned self.old).window.len + length bools.now ≤ bit_capacity self.old }
+        ensures bits { (owned self.new).bits ≡ (owned self.old).bits ++ bools.now }
+        ensures around { KeepsAround T.BITS (owned self.old) (owned self.new) }
+        ensures capacity { bit_capacity self.old ≤ bit_capacity self.new }
+    {
+        let mut word = 0u64;
+        let mut held = 0;
+        for bit in bools {
+            if held == 64 {
+                self.extend_from_word(word, held);
+                held = 0;
+            }
+            word = joined::<Lsb0, u64>(word, u64::from(*bit), 1);
+            held += 1;
+        }
+        self.extend_from_word(word, held);
+    }
+
+    /// Adds truth values as bits, up to 64 at a time: [`BitVec::extend`] of a slice, which adds all or none. An error where
+    /// memory is refused, and the sequence is as before then.
+    pub fn extend_from_bools(&mut self, bools: &[bool]) -> Result<(), AllocError>
+        ensures bits { (owned self.new).bits ≡ (if is_ok result then (owned self.old).bits ++ bools.now else (owned self.old).bits) }
+        ensures around { KeepsAround T.BITS (owned self.old) (owned self.new) }
+        ensures len { (owned self.new).window.len ≡ (if is_ok result then (owned self.old).window.len + length bools.now else (owned self.old).window.len) }
+        ensures same { OnErr result (owned self.new ≡ owned self.old) }
+        ensures full { OnErr result (bit_capacity self.old < (owned self.old).window.len + length bools.now) }
+        ensures capacity { bit_capacity self.old ≤ bit_capacity self.new }
+    {
+        self.reserve(bools.len())?;
+        self.put_bools(bools);
+        Ok(())
     }
 }
 

@@ -1,0 +1,2 @@
+#[cfg(feature = "alloc")]
+pub use crate::traits::IntoIter;

@@ -1,0 +1,267 @@
+//! Random calls on windows of a memory beside a plain list of truth values: six widths, three orders, a million calls in all.
+
+use fehimbary::prelude::*;
+use std::fmt::Debug;
+
+/// How many calls each width and order gets: a tenth in debug builds.
+const CALLS: usize = 1_000_000 / 18 / if cfg!(debug_assertions) { 10 } else { 1 } + 1;
+
+/// Numbers drawn by xorshift.
+struct Drawn(u64);
+
+impl Drawn {
+    fn next(&mut self) -> u64 {
+        self.0 ^= self.0 << 13;
+        self.0 ^= self.0 >> 7;
+        self.0 ^= self.0 << 17;
+        self.0
+    }
+
+    fn below(&mut self, end: usize) -> usize {
+        (self.next() % end as u64) as usize
+    }
+
+    fn bit(&mut self) -> bool {
+        self.next() >> 33 & 1 == 1
+    }
+
+    /// Two indices of a list of `len`, in order.
+    fn range(&mut self, len: usize) -> std::ops::Range<usize> {
+        let (one, other) = (self.below(len + 1), self.below(len + 1));
+        one.min(other)..one.max(other)
+    }
+}
+
+/// The bits of elements, by the order's own `at`.
+fn list<T: BitStore, O: BitOrder>(elements: &[T]) -> Vec<bool> {
+    let width = T::BITS as usize;
+    let bit = |place: usize| elements[place / width].to_u128() >> O::at::<T>(place % width) & 1 == 1;
+    (0..elements.len() * width).map(bit).collect()
+}
+
+/// An edit of a view, and of its list.
+fn edit<T: BitStore, O: SliceOrder>(drawn: &mut Drawn, view: &mut BitSliceMut<'_, T, O>, bits: &mut [bool], other: &[bool], beside: BitSlice<'_, T, O>) {
+    let len = bits.len();
+    let by = drawn.below(len + 1);
+    match drawn.below(15) {
+        0 => {
+            let bit = drawn.bit();
+            view.fill(bit);
+            bits.fill(bit);
+        }
+        1 => {
+            view.invert();
+            bits.iter_mut().for_each(|bit| *bit = !*bit);
+        }
+        2 => {
+            view.reverse();
+            bits.reverse();
+        }
+        3 => {
+            view.rotate_left(by);
+            bits.rotate_left(by);
+        }
+        4 => {
+            view.rotate_right(by);
+            bits.rotate_right(by);
+        }
+        5 => {
+            view.shift_start(by);
+            bits.copy_within(by.., 0);
+            bits[len - by..].fill(false);
+        }
+        6 => {
+            view.shift_end(by);
+            bits.copy_within(..len - by, by);
+            bits[..by].fill(false);
+        }
+        7 => {
+            let range = drawn.range(len);
+            let dest = drawn.below(len - range.len() + 1);
+            view.copy_within(range.clone(), dest);
+            bits.copy_within(range, dest);
+        }
+        8 if len > 0 => {
+            let (index, bit) = (drawn.below(len), drawn.bit());
+            view.set(index, bit);
+            bits[index] = bit;
+        }
+        9 if len > 0 => {
+            let (first, second) = (drawn.below(len), drawn.below(len));
+            view.swap(first, second);
+            bits.swap(first, second);
+        }
+        10 => {
+            let count = len.min(other.len());
+            view.part_mut(0..count).copy_from_bitslice(beside.into_part(0..count));
+            bits[..count].copy_from_slice(&other[..count]);
+        }
+        kind @ 11..=13 => {
+            let pairs = bits.iter_mut().zip(other.iter().copied().chain(std::iter::repeat(false)));
+            match kind {
+                11 => {
+                    view.and_bits(beside);
+                    pairs.for_each(|(bit, other)| *bit &= other);
+                }
+                12 => {
+                    *view |= beside;
+                    pairs.for_each(|(bit, other)| *bit |= other);
+                }
+                _ => {
+                    *view ^= beside;
+                    pairs.for_each(|(bit, other)| *bit ^= other);
+                }
+            }
+        }
+        _ => {
+            let size = 1 + drawn.below(9);
+            let mut walk = view.chunks_mut(size);
+            while let Some(mut chunk) = walk.next_mut() {
+                let bit = chunk.as_ref().first_one() == Some(0);
+                chunk.fill(!bit);
+            }
+            bits.chunks_mut(size).for_each(|chunk| {
+                let bit = chunk[0];
+                chunk.fill(!bit);
+            });
+        }
+    }
+}
+
+/// Questions to a view, and to its list.
+fn ask<T: BitStore, O: SliceOrder>(drawn: &mut Drawn, view: BitSlice<'_, T, O>, bits: &[bool], other: &[bool], beside: BitSlice<'_, T, O>) {
+    let ones = || bits.iter().enumerate().filter(|(_, bit)| **bit).map(|(index, _)| index);
+    match drawn.below(9) {
+        0 => assert_eq!(view.count_ones(), ones().count()),
+        1 => assert_eq!((view.first_one(), view.last_one()), (ones().next(), ones().last())),
+        2 => assert_eq!(view.first_zero(), bits.iter().position(|bit| !bit)),
+        3 => assert!(view.iter_ones().eq(ones())),
+        4 => assert!(view.iter().by_vals().rev().eq(bits.iter().rev().copied())),
+        5 => assert_eq!((view.any(), view.all()), (bits.contains(&true), !bits.contains(&false))),
+        6 => assert_eq!(view.cmp(&beside), bits.cmp(other)),
+        7 => assert_eq!(view == beside, bits == other),
+        _ => {
+            let size = 1 + drawn.below(9);
+            let counts = view.rchunks(size).map(|chunk| chunk.count_ones());
+            assert!(counts.eq(bits.rchunks(size).map(|chunk| chunk.iter().filter(|bit| **bit).count())));
+        }
+    }
+}
+
+/// A number stored and loaded; of bits in the direction of the order it is that of all of them.
+fn number<T: BitStore, O: FieldOrder>(drawn: &mut Drawn, mut view: BitSliceMut<'_, T, O>, is_little: bool) {
+    let len = view.len();
+    let value = (u128::from(drawn.next()) << 64 | u128::from(drawn.next())) >> (128 - len);
+    if is_little {
+        view.store_le::<u128>(value);
+    } else {
+        view.store_be::<u128>(value);
+    }
+    let loaded = if is_little { view.load_le::<u128>() } else { view.load_be::<u128>() };
+    assert_eq!(loaded, value);
+}
+
+/// What stores and loads a number in a view.
+type Number<T, O> = fn(&mut Drawn, BitSliceMut<'_, T, O>, bool);
+
+fn windows<T: BitStore + Debug + PartialEq, O: SliceOrder>(seed: u64, number: Number<T, O>) {
+    let mut drawn = Drawn(seed);
+    let mut element = |drawn: &mut Drawn| T::from_u128((u128::from(drawn.next()) << 64 | u128::from(drawn.next())) & T::ALL.to_u128());
+    for call in 0..CALLS {
+        let mut elements: Vec<T> = (0..1 + drawn.below(4)).map(|_| element(&mut drawn)).collect();
+        let other: Vec<T> = (0..2).map(|_| element(&mut drawn)).collect();
+        let (mut bits, other_bits) = (list::<T, O>(&elements), list::<T, O>(&other));
+        let (range, beside) = (drawn.range(bits.len()), drawn.range(other_bits.len()));
+        let right = BitSlice::<T, O>::from_slice(&other).into_part(beside.clone());
+        let mut view = BitSliceMut::<T, O>::from_slice_mut(&mut elements).into_part(range.clone());
+        match drawn.below(8) {
+            0..=4 => edit(&mut drawn, &mut view, &mut bits[range.clone()], &other_bits[beside], right),
+            5 | 6 => ask(&mut drawn, view.as_ref(), &bits[range.clone()], &other_bits[beside], right),
+            _ if range.is_empty() || range.len() > 128 => {}
+            kind => {
+                number(&mut drawn, view, kind == 7 && call % 2 == 0);
+                let after = list::<T, O>(&elements);
+                bits[range.clone()].copy_from_slice(&after[range.clone()]);
+            }
+        }
+        assert_eq!(list::<T, O>(&elements), bits, "call {call} on {range:?}");
+    }
+}
+
+/// A sequence that grows and shrinks.
+fn sequence<T: BitStore, O: SliceOrder>(seed: u64) -> Result<(), AllocError> {
+    let mut drawn = Drawn(seed);
+    let (mut bits, mut list) = (BitVec::<T, O>::new(), Vec::new());
+    for _ in 0..CALLS / 4 {
+        let (bit, index) = (drawn.bit(), drawn.below(list.len() + 1));
+        match drawn.below(10) {
+            0..=3 => {
+                bits.push(bit)?;
+                list.push(bit);
+            }
+            4 => assert_eq!(bits.pop(), list.pop()),
+            5 => {
+                bits.insert(index, bit)?;
+                list.insert(index, bit);
+            }
+            6 if index < list.len() => assert_eq!(bits.remove(index), list.remove(index)),
+            7 => {
+                let len = drawn.below(200);
+                bits.resize(len, bit)?;
+                list.resize(len, bit);
+            }
+            8 => {
+                let more: Vec<bool> = (0..drawn.below(70)).map(|_| drawn.bit()).collect();
+                bits.extend(&more);
+                list.extend(&more);
+            }
+            _ => {
+                let range = drawn.range(list.len());
+                let taken: Vec<bool> = bits.drain(range.clone())?.into_iter().collect();
+                assert_eq!(taken, list.drain(range).collect::<Vec<_>>());
+            }
+        }
+        assert!(bits.iter().by_vals().eq(list.iter().copied()));
+    }
+    Ok(())
+}
+
+fn orders<T: BitStore + Debug + PartialEq>() {
+    windows::<T, Lsb0>(88172645463325252, number);
+    windows::<T, Msb0>(1181783497276652981, number);
+    // under this order no numbers are stored
+    windows::<T, HiLo>(2463534242 + u64::from(T::BITS), |_, _, _| {});
+    for made in [sequence::<T, Lsb0>(5), sequence::<T, Msb0>(7), sequence::<T, HiLo>(11)] {
+        made.expect("memory");
+    }
+}
+
+#[test]
+fn u8_agrees() {
+    orders::<u8>();
+}
+
+#[test]
+fn u16_agrees() {
+    orders::<u16>();
+}
+
+#[test]
+fn u32_agrees() {
+    orders::<u32>();
+}
+
+#[test]
+fn u64_agrees() {
+    orders::<u64>();
+}
+
+#[test]
+fn u128_agrees() {
+    orders::<u128>();
+}
+
+#[test]
+fn usize_agrees() {
+    orders::<usize>();
+}

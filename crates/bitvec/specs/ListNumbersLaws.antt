@@ -1,0 +1,35 @@
+-- Lists of bits as numbers: of one bit more, of a front and the bit behind it, of what is left of a list; and what a cursor put.
+use Rattle.std.specs.Prelude.{◌≡◌, ℕ, ◌+◌, ◌-◌, ◌*◌, ◌<◌, ◌≤◌, if◌then◌else◌, Bool, false, true, List, [], ◌∷◌, ◌++◌, drop, length, refl, slice_index_or, slice_range, take}
+use Rattle.std.proofs.Common.{arith, ◌∙◌, ap}
+use Rattle.std.proofs.lemmas.List.{take_more}
+use Rattle.std.proofs.lemmas.Slice.{between_to_end}
+use Rattle.bitvec_base.specs.Window.{write_at}
+use Rattle.bitvec_segments.specs.PlainLaws.{append-highest}
+use Rattle.bitvec_segments.specs.Segments.{segment_number}
+use Rattle.bitvec_in_place.specs.Ranges.{bits_in}
+
+-- ---- the first bit the highest
+
+one_bit : (bit : Bool) → segment_number true (bit ∷ []) ≡ (if bit then 1 else 0)
+unfolding segment_number
+one_bit true = refl
+one_bit false = refl
+
+pub segment-push : (list : List Bool) (bit : Bool) → segment_number true (list ++ bit ∷ []) ≡ segment_number true list * 2 + (if bit then 1 else 0)
+segment-push list bit = let one = one_bit bit in append-highest list (bit ∷ []) ∙ ap (λ (n : ℕ). segment_number true list * 2 + n) one
+
+pub segment-front : (list : List Bool) (n : ℕ) → n < length list → segment_number true (take (n + 1) list) ≡ segment_number true (take n list) * 2 + (if slice_index_or list n false then 1 else 0)
+segment-front list n inside = ap (segment_number true) (take_more list n false inside) ∙ segment-push (take n list) (slice_index_or list n false)
+
+-- ---- what is left of a list
+
+pub range-rest : {X : Type 0} (list : List X) (from to : ℕ) → length list ≤ to → slice_range list from to ≡ drop from list
+range-rest list from to end = between_to_end list from to end
+
+pub bits_in-rest : (list : List Bool) (from to : ℕ) → length list ≤ to → bits_in list from to ≡ drop from list
+unfolding bits_in
+bits_in-rest list from to end = between_to_end list from to end
+
+pub written-first : {X : Type 0} (list new : List X) → write_at list 0 new ≡ new ++ drop (length new) list
+unfolding write_at
+written-first {X} list new = let none : 0 + length new ≡ length new = omega arith in ap (λ (n : ℕ). new ++ drop n list) none

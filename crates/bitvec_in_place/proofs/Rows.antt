@@ -1,0 +1,39 @@
+-- Numbers one behind the other: with one more of them, and beside an edit.
+use Rattle.std.specs.Prelude.{◌≡◌, ℕ, ◌+◌, ◌%◌, ◌^◌, ◌<◌, ◌≤◌, Bool, List, [], ◌∷◌, ◌++◌, length, refl, slice_index_or, take}
+use Rattle.std.proofs.Common.{arith, inl, ◌∙◌, ap}
+use Rattle.std.proofs.lemmas.List.{take_more}
+use Rattle.std.proofs.lemmas.List.Sums.{sum_by-cons, sum_by_push}
+use Rattle.bitvec_in_place.specs.ChangesLaws.{number-unchanged}
+use Rattle.bitvec_in_place.specs.Ranges.{ChangesOnly, number_in}
+use Rattle.bitvec_in_place.specs.Rows.{HasRow, row_len}
+
+-- an edit behind them leaves them
+row-unchanged : (high : Bool) (b : ℕ) (old new : List Bool) (m e from : ℕ) (row : List (ℕ × ℕ)) → ChangesOnly m e old new → m ≤ length old → from + row_len row ≤ m → HasRow high b old from row → HasRow high b new from row
+row-unchanged high b old new m e from [] kept inside order has = tt
+row-unchanged high b old new m e from (field ∷ row) kept inside order has =
+    let total : row_len (field ∷ row) ≡ field.0 + row_len row = sum_by-cons (λ (f : ℕ × ℕ). f.0) field row in (
+      number-unchanged high high b old new m e from (from + field.0) kept (omega arith) (inl (omega arith)) ∙ has.0,
+      row-unchanged high b old new m e (from + field.0) row kept inside (omega arith) has.1,
+    )
+
+-- one more stands behind them
+row-push : (high : Bool) (b : ℕ) (list : List Bool) (from m : ℕ) (row : List (ℕ × ℕ)) (field : ℕ × ℕ) → m ≡ from + row_len row → HasRow high b list from row
+    → number_in high high b list m (m + field.0) ≡ field.1 % 2 ^ field.0 → HasRow high b list from (row ++ field ∷ [])
+row-push high b list from m [] field at has number =
+    let here : m ≡ from = omega arith in
+    (rw here at number, tt)
+row-push high b list from m (first ∷ row) field at has number =
+    let total : row_len (first ∷ row) ≡ first.0 + row_len row = sum_by-cons (λ (f : ℕ × ℕ). f.0) first row in
+    (has.0, row-push high b list (from + first.0) m row field (omega arith) has.1 number)
+
+pub row_len-more : (row : List (ℕ × ℕ)) (i : ℕ) (d : ℕ × ℕ) → i < length row → row_len (take (i + 1) row) ≡ row_len (take i row) + (slice_index_or row i d).0
+row_len-more row i d inside = ap (λ (l : List (ℕ × ℕ)). row_len l) (take_more row i d inside) ∙ sum_by_push (λ (f : ℕ × ℕ). f.0) (take i row) (slice_index_or row i d)
+
+-- the next of them was stored behind those before it
+pub row-more : (high : Bool) (b : ℕ) (old new : List Bool) (from m e i : ℕ) (row : List (ℕ × ℕ)) (d : ℕ × ℕ) → HasRow high b old from (take i row) → ChangesOnly m e old new
+    → number_in high high b new m (m + (slice_index_or row i d).0) ≡ (slice_index_or row i d).1 % 2 ^ (slice_index_or row i d).0
+    → m ≡ from + row_len (take i row) → m ≤ length old → i < length row → HasRow high b new from (take (i + 1) row)
+row-more high b old new from m e i row d has kept number at inside more =
+    rw (take_more row i d more) (row-push high b new from m (take i row) (slice_index_or row i d) at (row-unchanged high b old new m e from (take i row) kept inside (omega arith) has) number)
+
+pub ruleset rooms = (arith, row_len-more)

@@ -1,0 +1,13 @@
+-- Numbers that stand one behind the other, each told with its width, as (width, number).
+use Rattle.std.specs.Prelude.{◌≡◌, ℕ, ◌+◌, ◌%◌, ◌^◌, Bool, List, [], ◌∷◌}
+use Rattle.std.specs.List.{sum_by}
+use Rattle.bitvec_in_place.specs.Ranges.{number_in}
+
+-- how many bits they take
+abbrev pub row_len : List (ℕ × ℕ) → ℕ
+row_len row = sum_by (λ (field : ℕ × ℕ). field.0) row
+
+-- the first stands from `from` on in as many bits as its width says, as far as it fits, and each other behind the one before it
+abbrev pub HasRow : Bool → ℕ → List Bool → ℕ → List (ℕ × ℕ) → Type 0
+HasRow high b list from [] = Unit {0}
+HasRow high b list from (field ∷ row) = (number_in high high b list from (from + field.0) ≡ field.1 % 2 ^ field.0) × HasRow high b list (from + field.0) row

@@ -1,0 +1,89 @@
+-- How many bits fit the elements for which there is memory.
+use Rattle.std.specs.Prelude.{◌≡◌, ℕ, ◌+◌, ◌*◌, ◌/◌, ◌%◌, ◌<◌, ◌≤◌, min, OnErr, Result, Ok, Err}
+use Rattle.std.specs.Int.{div_ceil}
+use Rattle.std.proofs.Common.{ap, arith}
+use Rattle.std.proofs.Math.Nat.{div-mul-le_self, le-div_iff_mul-le, lt_of_mul-lt-mul_right, mul-le-mul_left}
+use Rattle.std.proofs.lemmas.Nat.{div-add-mod', mod_below}
+use Rattle.std.proofs.lemmas.Grind.{div_ceil_times}
+use Rattle.bitvec_base.specs.Window.{max_bits}
+use Rattle.bitvec_owned.specs.Owned.{usable_bits}
+
+-- what is so at any answer
+pub refused : {V E P : Type 0} (r : Result V E) → P → OnErr r P
+refused (Ok v) p = tt
+refused (Err e) p = p
+
+module _ (b : ℕ) (some : 0 < b) where
+  -- so many bits touch no more elements than there are
+  pub fewest : (end n : ℕ) → end ≤ b * n → div_ceil end b ≤ n
+  fewest end n inside =
+      let rounded = div_ceil_times end b some in
+      let less : div_ceil end b < n + 1 = lt_of_mul-lt-mul_right b (omega arith) in
+      omega arith
+
+  -- bits that touch more elements than there may be don't fit
+  pub past-usable : (end n : ℕ) → min n (max_bits / b) < div_ceil end b → usable_bits b n < end
+  past-usable end n past =
+      let rounded = div_ceil_times end b some in
+      let few = min n (max_bits / b) in
+      let more : b * (few + 1) ≤ b * div_ceil end b = mul-le-mul_left {m = few + 1} {n = div_ceil end b} b (omega arith) in
+      let apart : b * (few + 1) ≡ b * few + b = omega arith in
+      omega arith
+
+  -- so many elements have no more bits than a memory may
+  pub few-fit : (n : ℕ) → n ≤ max_bits / b → b * n ≤ max_bits
+  few-fit n few = let product = (le-div_iff_mul-le {k = b} {x = n} {y = max_bits} some).0 few in omega arith
+
+  -- they hold the bits that touch them
+  pub touched-inside : (end n : ℕ) → n ≡ div_ceil end b → end ≤ b * n
+  touched-inside end n is = let rounded = div_ceil_times end b some in rw is (omega arith)
+
+  -- where an element ends with the bits, one bit more touches one element more
+  pub next-touched : (end : ℕ) → end % b ≡ 0 → div_ceil (end + 1) b ≡ div_ceil end b + 1
+  next-touched end whole =
+      let now = div_ceil_times end b some in
+      let then = div_ceil_times (end + 1) b some in
+      let sum = div-add-mod' end b in
+      let none : div_ceil end b ≡ end / b = rw whole (omega arith) in
+      let low : end / b < div_ceil (end + 1) b = lt_of_mul-lt-mul_right b (omega arith) in
+      let high : div_ceil (end + 1) b < end / b + 2 = lt_of_mul-lt-mul_right b (omega arith) in
+      omega arith
+
+  -- where it ends within one, one bit more touches no other
+  pub same-touched : (end : ℕ) → (end % b ≡ 0 → ⊥) → div_ceil (end + 1) b ≡ div_ceil end b
+  same-touched end inside =
+      let now = div_ceil_times end b some in
+      let then = div_ceil_times (end + 1) b some in
+      let sum = div-add-mod' end b in
+      let part : 0 < end % b = omega (arith, inside) in
+      let up : div_ceil end b ≡ end / b + 1 = omega arith in
+      let low : end / b < div_ceil (end + 1) b = lt_of_mul-lt-mul_right b (omega arith) in
+      let below = mod_below end b some in
+      let high : div_ceil (end + 1) b < end / b + 2 = lt_of_mul-lt-mul_right b (omega arith) in
+      omega arith
+
+  -- and then there is room for no bit more where there is for no element more
+  pub past-next : (end n : ℕ) → end % b ≡ 0 → min n (max_bits / b) ≤ div_ceil end b → usable_bits b n ≤ end
+  past-next end n whole past =
+      let sum = div-add-mod' end b in
+      let none : div_ceil end b ≡ end / b = rw whole (omega arith) in
+      let product = mul-le-mul_left {m = min n (max_bits / b)} {n = div_ceil end b} b past in
+      let all : b * div_ceil end b ≡ b * (end / b) = ap (λ (k : ℕ). b * k) none in
+      omega arith
+
+  -- ---- the elements that there may be
+
+  pub most-fit : max_bits / b * b ≤ max_bits
+  most-fit = div-mul-le_self max_bits b
+
+  pub usable-most : (n : ℕ) → usable_bits b n ≤ max_bits / b * b
+  usable-most n = let product = mul-le-mul_left {m = min n (max_bits / b)} {n = max_bits / b} b (omega arith) in omega arith
+
+  pub usable-more : (n k : ℕ) → n ≤ k → usable_bits b n ≤ usable_bits b k
+  usable-more n k more = mul-le-mul_left {m = min n (max_bits / b)} {n = min k (max_bits / b)} b (omega arith)
+
+  pub inside-usable : (end n : ℕ) → div_ceil end b ≤ min n (max_bits / b) → end ≤ usable_bits b n
+  inside-usable end n few =
+      let rounded = div_ceil_times end b some in
+      let product = mul-le-mul_left {m = div_ceil end b} {n = min n (max_bits / b)} b few in
+      omega arith

@@ -1,0 +1,162 @@
+"""Conditions: what tests the clauses of public calls when they run, by the table."""
+import re
+
+import clauses
+import table
+from clauses import Strange, Term, match, pattern
+from tokens import Unknown, is_mark, is_word, solid, text
+
+COUNTS = [(pattern(form), rust) for form, rust in table.COUNTS]
+TERMS = [(pattern(form), rust, words) for form, rust, words in table.TERMS]
+CONDITIONS = [(pattern(form), rust, words) for form, rust, words in table.CONDITIONS]
+WIDE = {"≤": "<=", "<": "<", "≡": "=="}
+
+
+class Test:
+    """The test of one clause: its Rust, its words, and the values that its message shows."""
+
+    def __init__(self, rust, words, values):
+        self.rust, self.words, self.values = rust, words, values
+
+
+class Conditions:
+    """Makes the tests of one function. `kinds` has the types of its parameters."""
+
+    def __init__(self, file, name, kinds, names, trait):
+        self.file, self.name, self.kinds, self.names, self.trait, self.values = file, name, kinds, names, trait, {}
+
+    def test(self, clause):
+        """The test of a clause; None where Rust grants it."""
+        head = next((node.text for node in solid(clause.group.inner) if is_word(node)), "")
+        if head in table.NOTHING or head in table.STAYS:
+            return None
+        try:
+            term = clauses.clause(clause.group.inner)
+            self.values = {}
+            for form, rust, words in CONDITIONS:
+                found = {}
+                if match(form, term, found):
+                    wide = term.head in WIDE and rust.startswith("{a}") and self.is_wide(term)
+                    test = self.filled(rust, found, wide)
+                    return None if test == "true" else Test(test, self.said(words, found), list(self.values.items()))
+        except Strange:
+            pass
+        raise Unknown(self.file, clause.line, f"no line of the table tests `{clause.words}`, which {self.name} requires")
+
+    def is_wide(self, term):
+        return term.head in ("+", "*") or any(self.is_wide(it) for it in term.below)
+
+    def filled(self, rust, found, wide):
+        rust = re.sub(r"#(\w+)", lambda it: self.count(found[it[1]]), rust)
+        return re.sub(r"\{(\w+)\}", lambda it: self.trait if it[1] == "trait" else self.number(found[it[1]], wide), rust)
+
+    def said(self, words, found):
+        return re.sub(r"\{(\w+)\}", lambda it: self.shown(found[it[1]]), words)
+
+    def count(self, term):
+        for form, rust in COUNTS:
+            found = {}
+            if match(form, term, found):
+                if rust.startswith("#"):
+                    return self.count(found["list"])
+                name = str(found.get("list", Term("self")))
+                base = self.names.get(name, name)
+                made = rust.replace("{list}", base)
+                self.values[f"{name}.len".replace("self.len", "len")] = made
+                return made
+        raise Strange()
+
+    def number(self, term, wide=False):
+        """A term as a number in Rust."""
+        rust = self.plain_number(term, wide)
+        if wide and not term.below or wide and term.head in (".", "app"):
+            return f"crate::conditions::wide({rust})"
+        return rust
+
+    def plain_number(self, term, wide):
+        for form, rust, words in TERMS:
+            found = {}
+            if match(form, term, found):
+                made = self.filled(rust, found, False)
+                if "::" not in made or "(" in made:
+                    self.values[self.filled_words(words, found)] = made
+                return made
+        if term.head == "." and term.below[1].head == "BITS":
+            self.values[str(term)] = f"{self.path(term.below[0])}::BITS"
+            return f"({self.path(term.below[0])}::BITS as usize)"
+        if term.head in ("+", "*", "/", "%", "-"):
+            left, right = (self.number(it, wide) for it in term.below)
+            return f"{left} {term.head} {right}" if term.head in "*/%" else f"({left} {term.head} {right})"
+        if term.head == "^":
+            return "(1u128 << 64)" if str(term) == "2 ^ 64" else self.strange()
+        if not term.below or term.head == ".":
+            return self.leaf(term)
+        return self.strange()
+
+    def strange(self):
+        raise Strange()
+
+    def filled_words(self, words, found):
+        return re.sub(r"\{(\w+)\}", lambda it: str(found[it[1]]), words)
+
+    def path(self, term):
+        words = str(term).replace(".", "::")
+        return f"<{words} as crate::proved::store::BitStore>" if "::" in words else words
+
+    def leaf(self, term):
+        name = str(term)
+        if name.isdigit():
+            return name
+        base = name.split(".")[0]
+        if base not in self.kinds and base != "self":
+            raise Strange()
+        rust = ".".join([self.names.get(base, base)] + name.split(".")[1:])
+        if not re.fullmatch(r"[A-Z]\w?|&(mut )?[A-Z]", self.kinds.get(name, "").replace("&mut", "&mut ")) and name != "self":
+            self.values[name] = rust
+        return f"({rust} as usize)" if self.kinds.get(name) == "u32" else rust
+
+    def shown(self, term):
+        for form, _, words in TERMS:
+            found = {}
+            if match(form, term, found):
+                return self.filled_words(words, found)
+        return str(term)
+
+
+def kinds_of(item, eraser):
+    """The parameters of a function, by name, with their types."""
+    kinds = {}
+    for piece in eraser.pieces(item.parameters.inner):
+        words = solid(piece)
+        at = next((k for k, node in enumerate(words) if is_mark(node, ":")), None)
+        if at is not None:
+            kinds[words[at - 1].text] = text(words[at + 1:])
+    return kinds
+
+
+def tests_of(item, stated, eraser, trait):
+    """The tests of a function's conditions, which the item `stated` has, its trait's or itself."""
+    kinds = kinds_of(stated, eraser)
+    names = dict(zip(kinds, kinds_of(item, eraser)))
+    made = Conditions(eraser.file, item.name, kinds, names, trait)
+    return [test for test in (made.test(clause) for clause in stated.requires()) if test]
+
+
+def closures_of(stated):
+    """The closures of a function that have to leave a view in its place: the name of each, its type, and what wraps it."""
+    found = []
+    for clause in stated.requires():
+        words = clause.words
+        if wrap := table.STAYS.get(words.split()[0]):
+            kind, name = re.search(r"(\w)\.pre (\w+)\)", words) and re.search(r"\((\w)\.pre (\w+)\)", words).groups() or re.search(r"(\w)\.step (\w+)", words).groups()
+            view = "Self::View" if words.split()[1].startswith("Self.View.") else "Self"
+            found.append((name, kind, f"let mut {name} = crate::conditions::{wrap}::<T, O, {view}, _, _>({name});"))
+    return found
+
+
+def written(test, name, indent):
+    """A test as Rust."""
+    begin = "cfg!(debug_assertions) && !" if "unchecked" in name else "!"
+    values = ", ".join(f'("{label}", &{rust})' for label, rust in test.values)
+    return (f"{indent}if {begin}({test.rust}) {{\n"
+            f'{indent}    crate::conditions::fails("{name}", "{test.words}", &[{values}]);\n{indent}}}\n')

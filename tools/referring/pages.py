@@ -1,0 +1,229 @@
+"""The text of the reference's pages."""
+import html
+import re
+
+import library
+from referring import rust
+from referring.model import GHOST, NAME
+from referring.notions import NAMES, NOTIONS, SETS, STD, WRONG
+
+MADE = "<!-- made by tools/reference from the sources: change these, and run it again -->\n"
+SECTIONS = {"call": "Calls", "word": "Words", "law": "Laws", "set": "Sets"}
+# Of the page of wrong bodies: what each kind is.
+WRONG_SECTIONS = {
+    "edit": ("Edits of the gate", "The prover has to refuse each, in every run of the gate."),
+    "hand": ("Edits tried by hand", "The prover has to refuse each; `compile_fail/edits.sh` tries them."),
+    "mutant": ("Mutants", "Every clause admits these, or a test shows them more cheaply; `compile_fail/mutants.sh` tries that the test fails."),
+}
+LINK = re.compile(r"\[`([^`\]]+)`\](?!\()")
+TOKEN = re.compile(f"{NAME.pattern}|{GHOST.pattern}")
+# How many names a list has before it is folded.
+FEW = 24
+
+
+def code(model, entry):
+    """An entry's code, with a link at each name that is defined elsewhere in the reference."""
+    def linked(found):
+        name = found[0]
+        is_member = entry.scope and line[found.start() - 1:found.start()] == "."
+        target = model.ghost_target(entry.scope, name) if is_member else model.target(entry.scope, name) if name not in entry.bound else None
+        if not target or target is entry or target not in model.shown_entries:
+            return html.escape(name, quote=False)
+        return f'<a href="{target.link}">{html.escape(name, quote=False)}</a>'
+
+    lines = []
+    for line in entry.code:
+        text, _, comment = line.partition("-- ") if entry.scope and not isinstance(entry.scope, rust.Item) else (line, "", "")
+        if line.strip().startswith("//") or (comment and not text.strip()):
+            lines.append(html.escape(line, quote=False))
+            continue
+        parts, at = [], 0
+        for found in TOKEN.finditer(line) if entry.scope else ():
+            parts += [html.escape(line[at:found.start()], quote=False), linked(found)]
+            at = found.end()
+        lines.append("".join([*parts, html.escape(line[at:], quote=False)]))
+    return "<pre>" + "\n".join(lines) + "</pre>"
+
+
+def escaped(text):
+    """Plain words as Markdown: what would be read as marks is escaped, but in code spans."""
+    parts = re.split(r"(`[^`]*`)", text)
+    return "".join(it if it.startswith("`") else re.sub(r"([*_<>|\[\]])", r"\\\1", it) for it in parts)
+
+
+def sentence(lines, names):
+    """A comment of a definition as a sentence."""
+    text = " ".join(line.strip() for line in lines).strip()
+    first = re.match(r"(?:a|[a-z]{2,})(?![\w'`])", text)
+    if first and first[0] not in names:
+        text = text[0].upper() + text[1:]
+    return escaped(text) + ("" if not text or text[-1] in ".:!?" else ".")
+
+
+def documents(model, lines):
+    """A `///` as Markdown: its links lead into the reference, and its examples are code."""
+    text, is_code, found = [], False, []
+    for line in lines:
+        if line.strip().startswith("```"):
+            line = "```" if is_code else "```rust"
+            is_code = not is_code
+        elif not is_code:
+            line = LINK.sub(lambda it: link_of(model, it[1]), line)
+        found.append(line)
+    return "\n".join(found)
+
+
+def link_of(model, name):
+    path = [it for it in name.split("::") if it not in ("crate", "self")]
+    for wanted in ("::".join(path[-2:]), path[-1] if path else ""):
+        entry = model.calls.get(wanted)
+        if entry:
+            return f"[`{'::'.join(path)}`]({entry.link})"
+    return f"`{'::'.join(path)}`"
+
+
+def listed(entries):
+    """Links to entries, folded where they are many."""
+    entries = sorted(entries, key=lambda it: (it.name.lower(), it.anchor))
+    text = ", ".join(f"[`{it.name}`]({it.link})" for it in entries)
+    return text if len(entries) <= FEW else f"{len(entries)}.\n<details markdown=\"1\"><summary>all of them</summary>\n\n{text}\n\n</details>\n"
+
+
+def body(model, entry):
+    """What an entry has below its name."""
+    parts = []
+    if entry.code:
+        parts.append(code(model, entry))
+    if entry.kind == "call":
+        parts.append(documents(model, entry.text))
+    elif entry.kind in WRONG_SECTIONS:
+        parts.append(" ".join(entry.text))
+    else:
+        parts.append(sentence(entry.text, entry.bound | {entry.name}))
+    if entry.kind == "call" and entry.scope.kind == "trait":
+        parts += impls(model, entry)
+    if entry.kind == "call" and entry.scope.kind in ("struct", "enum"):
+        parts += traits(model, entry)
+    parts += [f"Worked: {escaped(it)}" for it in entry.worked] + [f"Checked: `{it}`" for it in entry.checked]
+    if entry.kind == "set":
+        parts.append("Laws: " + set_members(model, entry))
+    for kind, called in (("call", "Calls"), ("word", "Words"), ("law", "Laws"), ("set", "Sets")):
+        users = [it for it in model.users.get(entry, ()) if it.kind == kind and not (entry.kind == "set" and kind == "set")]
+        if users and entry.kind != "call" and entry.page is not STD:
+            parts.append(f"{called} that name it: {listed(users)}")
+    parts.append(f"<small>{entry.where}</small>")
+    return [it for it in parts if it.strip()]
+
+
+def traits(model, entry):
+    """Which traits a type has."""
+    found = {}
+    for impl in model.traits_of(entry.scope):
+        target = model.target(impl, impl.of[1])
+        found[impl.of[1]] = f"[`{impl.of[1]}`]({target.link})" if target in model.shown_entries else f"`{impl.of[1]}`"
+    for attribute in entry.scope.attributes:
+        derived = re.match(r"#\[derive\((.*)\)\]", attribute)
+        found.update({name: f"`{name}`" for name in derived[1].replace(" ", "").split(",") if name} if derived else {})
+    if found:
+        yield f"Traits: {', '.join(found[name] for name in sorted(found))}."
+
+
+def impls(model, entry):
+    """Which types have a trait, and what they give for the members that only contracts name."""
+    found = {}
+    for impl, given in model.impls_of(entry.scope):
+        target = model.target(impl, impl.of[0])
+        name = f"[`{impl.of[0]}`]({target.link})" if target in model.shown_entries else f"`{impl.of[0]}`"
+        found.setdefault("; ".join(f"`{it}`" for it in given), []).append(name)
+    for given, names in found.items():
+        yield f"Types that have it{f' with {given}' if given else ''}: {', '.join(names)}."
+
+
+def set_members(model, entry):
+    found = []
+    for name in entry.laws:
+        target = model.target(entry.scope, name)
+        is_shown = target in model.shown_entries
+        found.append(f"[`{name}`]({target.link})" if is_shown else f"`{name}`")
+    return ", ".join(found)
+
+
+def head(notion):
+    return f"# {notion.title}\n\n{MADE}\n{notion.about}\n"
+
+
+def page(model, notion, entries):
+    """A page: its calls, words and laws, each below its name."""
+    text = [head(notion)]
+    for kind, title in SECTIONS.items():
+        some = [it for it in entries if it.kind == kind]
+        if not some:
+            continue
+        if len({it.kind for it in entries}) > 1:
+            text.append(f"## {title}\n")
+        for entry in some:
+            text.append(f'<a id="{entry.anchor}"></a>\n\n### `{entry.name}`\n')
+            text += [it + "\n" for it in body(model, entry)]
+    return "\n".join(text)
+
+
+def wrong_page(model, entries):
+    """The page of wrong bodies, by who tries them."""
+    text = [head(WRONG)]
+    for kind, (title, about) in WRONG_SECTIONS.items():
+        some = [it for it in entries if it.kind == kind]
+        text += [f"## {title}\n", f"{about}\n"] if some else []
+        for entry in some:
+            text.append(f'<a id="{entry.anchor}"></a>\n\n### `{entry.name}`\n')
+            text += [it + "\n" for it in body(model, entry)]
+    return "\n".join(text)
+
+
+def names_page(model):
+    """Each name, with what it is and where."""
+    rows = {}
+    for entry in model.entries:
+        if entry.kind not in WRONG_SECTIONS:
+            last = entry.name.rpartition("::")[2]
+            rows.setdefault((last[0].lower() if last[0].isascii() else "other", last.lower(), last), []).append(entry)
+    text, letter = [head(NAMES)], None
+    for (first, _, last), entries in sorted(rows.items()):
+        if first != letter:
+            text.append(f"\n## {first}\n")
+            letter = first
+        links = [f"[{it.page.title}]({it.link})" + (f" (`{it.name}`)" if it.name != last else "") for it in entries]
+        text.append(f"- `{last}`: {', '.join(links)}")
+    return "\n".join(text) + "\n"
+
+
+def index(model, by_page):
+    """The first page: the pages, with how much each has."""
+    text = [f"# Reference\n\n{MADE}\nEach call of `bitvec` and `bitrecord` with its contract, the words of contracts, and the laws that callers may cite. "
+            "A name in a head or a statement is a link to where it is defined. [Names](names.md) has all of them by the alphabet.\n"]
+    for notion in [*NOTIONS, SETS, WRONG, STD]:
+        kinds = [it.kind for it in by_page.get(notion.name, ())]
+        titles = {**SECTIONS, **{kind: title for kind, (title, _) in WRONG_SECTIONS.items()}}
+        counts = ", ".join(counted(kinds.count(kind), title.lower()) for kind, title in titles.items() if kind in kinds)
+        text.append(f"- [{notion.title}]({notion.name}.md): {notion.about} ({counts})")
+    return "\n".join(text) + "\n"
+
+
+def counted(number, title):
+    return f"{number} {title[:-1] if number == 1 else title}"
+
+
+def pages(model):
+    """The text of each page, by its file."""
+    model.shown_entries = set(model.entries)
+    model.users = {}
+    for entry in model.entries:
+        for target in entry.targets:
+            model.users.setdefault(target, []).append(entry)
+    by_page = {}
+    for entry in model.entries:
+        by_page.setdefault(entry.page.name, []).append(entry)
+    found = {f"{notion.name}.md": page(model, notion, by_page.get(notion.name, ())) for notion in [*NOTIONS, SETS, STD]}
+    found["wrong-bodies.md"] = wrong_page(model, by_page.get(WRONG.name, ()))
+    found["names.md"] = names_page(model)
+    found["README.md"] = index(model, by_page)
+    return {file: re.sub(r"\n{3,}", "\n\n", text).rstrip() + "\n" for file, text in found.items()}
