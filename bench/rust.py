@@ -15,7 +15,7 @@ REGISTRY = pathlib.Path("/usr/share/cargo/registry")
 WORDS = ["-C", "opt-level=3", "-C", "target-cpu=x86-64-v2", "-C", "codegen-units=1", "-C", "panic=abort", "--cap-lints", "allow",
          "-C", "llvm-args=-x86-branches-within-32B-boundaries"]
 FEATURES = ["--cfg", 'feature="std"', "--cfg", 'feature="alloc"']
-TURNS = 3
+TURNS = 2
 
 
 def rustc(source, name, folder, kind, *words):

@@ -108,9 +108,11 @@ echo 'Python:'
 "$python" tests/client.py 100
 "$python" tests/oracle.py 1000000
 "$python" -m unittest --quiet tests/native.py tests/safety.py tests/cycles.py
-"$python" -c 'import doctest, fehimbary.bits; print(sum(doctest.testmod(it).failed for it in (fehimbary, fehimbary.bits)), "doctests fail")'
+"$python" -c 'import doctest, fehimbary.bits, fehimbary.frozen; print(sum(doctest.testmod(it).failed for it in (fehimbary, fehimbary.bits, fehimbary.frozen)), "doctests fail")'
 mypy --strict --cache-dir "$room/mypy" python/wheel_of.py tests/example.py
 mypy --strict --cache-dir "$room/mypy" --python-executable "$python" -p fehimbary
+mypy --strict --cache-dir "$room/mypy" --python-executable "$python" tests/typed.py
+"$python" tests/typed.py
 "$python" examples/life.py "$room/life.png"
 "$python" tests/life.py "$room/life.png"
 cmp "$room/life.png" examples/life.png

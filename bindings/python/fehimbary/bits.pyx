@@ -30,8 +30,6 @@ cdef extern from "calls.h":
     const char *FEHIMBARY_VERSION
     ctypedef bint truth "bool"
     ctypedef uint32_t fb_status
-    ctypedef struct fb_step
-    ctypedef struct fb_reply
     ctypedef struct fb_window:
         void *elements
         size_t count, start, len
@@ -60,11 +58,11 @@ cdef extern from "calls.h":
     Edit fb_invert, fb_reverse
     EditBySize fb_shift_start, fb_shift_end, fb_rotate_left, fb_rotate_right
     EditByNumber fb_store_le, fb_store_be
-    EditBeside fb_copy, fb_and, fb_or, fb_xor, fb_swap
+    EditBeside fb_copy, fb_duplicate, fb_and, fb_or, fb_xor, fb_swap
     AskTruth fb_any, fb_all
     AskSize fb_count_ones, fb_count_zeros, fb_first_one, fb_first_zero, fb_last_one, fb_last_zero
     AskNumber fb_load_le, fb_load_be
-    AskBeside fb_equal, fb_starts_with, fb_ends_with, fb_contains, fb_disjoint, fb_subset
+    AskBeside fb_same, fb_starts_with, fb_ends_with, fb_contains, fb_disjoint, fb_subset
     CountBeside fb_count_and, fb_count_xor
     fb_status fb_compare(Window, Window, int32_t *)
     fb_status fb_fill(Window, truth)
@@ -77,7 +75,7 @@ cdef extern from "calls.h":
     fb_status fb_count_step(Window, size_t, size_t *)
     fb_status fb_copy_step(Window, Window, size_t, size_t)
     fb_status fb_ones(Window, size_t, size_t *, size_t, size_t *)
-    fb_status fb_run(Window, Window, const fb_step *, size_t, fb_reply *)
+    fb_status fb_run(Window, Window, const void *, size_t, void *)
 
 __version__ = FEHIMBARY_VERSION.decode()
 cdef object LSB0 = Lsb0, MSB0 = Msb0
@@ -115,7 +113,6 @@ cdef class Bits:
     numpy, which can't change its length while it has views. It stays, even where a memoryview of it is released meanwhile. Its
     bits are numbered element by element, in each as the order says. A view of whole elements is a buffer of their bytes itself;
     `bytes` and `to_bytes` give eight bits a byte in the view's order.
-
     Views are compared by their bits, as words in a dictionary, whatever their orders and elements; they have no hash. Operators and
     parts with a step give bits with a memory of their own. Of the right operand of `&`, `|` and `^` bits past its end count as 0,
     and further ones as none. Right bits of another order or element, or of elements that are written, are copied first. What is
@@ -271,7 +268,7 @@ cdef class Bits:
         if not isinstance(key, slice):
             done(fb_set(written(self), index_of(self, key), bit_of(value)))
             return
-        if hasattr(value, "__iter__"):
+        if is_bits(value):
             right = bits_of(value, self.window.order)
         else:
             bit = bit_of(value)
@@ -368,7 +365,7 @@ cdef class Bits:
         if not isinstance(right, Bits):
             return NotImplemented
         if operation == Py_EQ or operation == Py_NE:
-            return asked(&self.window, right, fb_equal) == (operation == Py_EQ)
+            return asked(&self.window, right, fb_same) == (operation == Py_EQ)
         other = right_of(&self.window, right, False)
         done(fb_compare(&self.window, &other.window, &order))
         return order < (operation == Py_LE) if operation in (Py_LT, Py_LE) else order > -(operation == Py_GE)
@@ -456,11 +453,10 @@ cdef class Bits:
             return after(self, fb_swap(&self.window, &right.window))
         left, other = like(self), like(right)  # two parts of one element
         done(fb_copy(&self.window, &other.window))
-        done(fb_copy(&right.window, &left.window))
-        return self
+        return after(self, fb_copy(&right.window, &left.window))
 
     def run(self, Bits right not None, steps):
-        """Carries out steps with right windows of all of the right memory, and gives replies. Refused: no command; ValueError: kinds."""
+        """Carries out steps with right windows of all of the right memory, and gives replies. ValueError: this memory, or others."""
         cdef fb_window all = root_of(right).window
         steps = tuple(steps)
         cdef size_t count = len(steps)
@@ -470,7 +466,7 @@ cdef class Bits:
             all = fb_window(all.elements, fb_size(&all) >> right.window.shift - 3, 0, 8 * fb_size(&all), right.window.order, right.window.shift)
         if not fb_alike(&self.window, &all) or fb_overlap(&self.window, &all):
             raise ValueError("a right view of this memory, or of another order or element")
-        done(fb_run(written(self), &all, <fb_step *>first, count, <fb_reply *>answers))
+        done(fb_run(written(self), &all, <void *>first, count, <void *>answers))
         return list(replies)
 
     def count_ones(self):
@@ -581,8 +577,6 @@ cdef class Bits:
         """Gives 1 to 64 bits the number modulo 2 to the length that load_be then reads. Refused: other lengths."""
         return after(self, fb_store_be(written(self), whole(number)))
 
-# ---- arguments
-
 cdef inline int bit_of(object value) except -1:
     """A bit: what is equal to 0 or 1."""
     if value is True or value is False:
@@ -592,11 +586,9 @@ cdef inline int bit_of(object value) except -1:
     raise ValueError(f"{value!r} isn't a bit")
 
 cdef inline uint32_t order_of(object order) except? 99:
-    """The number of an order."""
     return FB_LSB0 if order is LSB0 else FB_MSB0 if order is MSB0 else Order(order)
 
 cdef inline uint64_t whole(object number) except? 0:
-    """A number of 64 bits."""
     return <uint64_t>PyNumber_Index(number)
 
 cdef inline size_t places(Bits bits, object by) except? 0:
@@ -624,8 +616,7 @@ cdef inline Py_ssize_t cut(Bits bits, object key, size_t *start, size_t *length)
     return step
 
 cdef inline bint is_bits(object item):
-    """Whether it is several bits."""
-    return isinstance(item, Bits) or hasattr(item, "__iter__")
+    return isinstance(item, Bits) or not isinstance(item, (bool, int)) and hasattr(item, "__iter__")
 
 cdef Bits bits_of(object item, uint32_t order):
     """Bits as they come, or with elements of their own."""
@@ -723,8 +714,7 @@ cdef bint stands(Bits bits, Bits needle, size_t start, size_t places) except -1:
     return asked(&part, needle, fb_contains)
 
 cdef object located(Bits bits, object item, object start, object stop, bint is_last):
-    """The least or the greatest index in a part from which on bits stand together, if they do: twice as many places are asked each
-    time, as long as a signal needn't wait."""
+    """The least or the greatest index in a part from which on bits stand; twice as many places are asked while no signal waits."""
     cdef Py_ssize_t step
     cdef size_t length, low, high, size = 64, half, most, first
     cdef Bits needle = bits_of(item if is_bits(item) else (item,), bits.window.order)
@@ -752,8 +742,6 @@ cdef object located(Bits bits, object item, object start, object stop, bint is_l
             size = half
     return first + low
 
-# ---- bits of their own
-
 cdef Bits owned(object kind, size_t length, uint32_t order, unsigned shift):
     """Bits of a kind with elements of their own, of any values; those past the bits are 0."""
     cdef Bits bits = Bits.__new__(Bits) if kind is Bits else Bits.__new__(kind)
@@ -777,7 +765,7 @@ cdef Bits copied(Bits bits, Window kind):
 cdef inline Bits like(Bits bits):
     """The bits with elements of their own, as theirs, and of their class."""
     cdef Bits copy = owned(type(bits), bits.window.len, bits.window.order, bits.window.shift)
-    done(fb_copy(&copy.window, &bits.window))
+    done(fb_duplicate(&copy.window, &bits.window))
     return copy
 
 cdef Bits of_text(object kind, str text, uint32_t order):

@@ -1,5 +1,6 @@
 /* The functions of fehimbary.h by windows: fb_fill(w, bit) is the one for the elements of w. */
 #include <fehimbary.h>
+#include <string.h>
 
 /* Some bits of a memory. `shift` is the binary logarithm of the bits of an element: 3 to 6. */
 typedef struct fb_window {
@@ -77,3 +78,14 @@ MORE(copy_within, (fb_seen w, size_t from, size_t to, size_t dest), LEFT, from, 
 MORE(ones, (fb_seen w, size_t from, size_t *indices, size_t room, size_t *found), LEFT, from, indices, room, found)
 MORE(run, (fb_seen w, fb_seen r, const fb_step *steps, size_t step_count, fb_reply *replies), LEFT, r->elements, r->count,
      steps, step_count, replies, step_count)
+
+/* Whether two windows are as many whole elements; a copy, and whether they are the same. */
+static inline bool fb_whole(fb_seen w, fb_seen r) {
+    return w->len && w->len == r->len && !(w->start | r->start) && w->len == w->count << w->shift && w->count == r->count;
+}
+static inline fb_status fb_duplicate(fb_seen w, fb_seen r) {
+    return fb_whole(w, r) ? (memcpy(w->elements, r->elements, fb_size(r)), FB_DONE) : fb_copy(w, r);
+}
+static inline fb_status fb_same(fb_seen w, fb_seen r, bool *it) {
+    return fb_whole(w, r) ? (*it = memcmp(w->elements, r->elements, fb_size(r)) == 0, FB_DONE) : fb_equal(w, r, it);
+}

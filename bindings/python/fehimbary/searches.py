@@ -31,11 +31,11 @@ def index(bits: Bits, item: Item, start: SupportsIndex = 0, stop: SupportsIndex 
     return place
 
 
-def times(bits: Bits, item: Bits, start: SupportsIndex, stop: SupportsIndex | None, step: SupportsIndex) -> int:
+def times(bits: Bits, item: Bits, start: int, stop: int | None, step: int) -> int:
     """How often bits stand in a part of others, one behind the other."""
-    if step.__index__() != 1 or len(item) == 0:
+    if step != 1 or len(item) == 0:
         raise ValueError("bits are counted without a step, and no bits not at all")
-    return sum(1 for _ in places(bits[start:stop], item, len(item)))
+    return len(list(places(bits[start:stop], item, len(item))))
 
 
 def issuperset(bits: Bits, right: Bits) -> bool:

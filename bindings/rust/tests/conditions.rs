@@ -1,5 +1,5 @@
 //! Each condition that a public call tests, broken: the call panics with the condition, and the memory is as before.
-#![allow(deprecated)]
+#![allow(clippy::reversed_empty_ranges, deprecated)]
 
 mod list;
 
@@ -301,7 +301,6 @@ fn ranges_in_place(seen: &mut Seen) {
     each!(on_slice seen (in_place::) [u8, Msb0] [usize::MAX, true]; set replace);
     each!(on_slice seen (in_place::) [u8, Msb0] [48, 0]; swap);
     each!(on_slice seen (in_place::) [u8, Msb0] [0, 48]; swap);
-    #[allow(clippy::reversed_empty_ranges)]
     each!(on_slice seen (in_place::) [u8, Msb0] [9..8, 0]; rotate_left rotate_right shift_start shift_end);
     each!(on_slice seen (in_place::) [u8, Msb0] [8..16, 9]; rotate_left rotate_right shift_start shift_end);
     each!(on_slice seen (in_place::) [u8, Msb0] [8..20, 37]; copy_within swap_within and_within or_within xor_within);
@@ -332,7 +331,6 @@ fn ranges_in_place(seen: &mut Seen) {
         put_row(|bytes| in_place::BitWriter::<u8, Msb0>::new(bytes).put_row(&[(3, 1), (65, 1)]));
         put(|bytes| in_place::BitWriter::<u8, Msb0>::new(bytes).put::<u8>(1, 9));
     );
-    #[allow(clippy::reversed_empty_ranges)]
     for range in [40..49, 5..5, 5..14] {
         refused!(seen;
             load_le(|bytes| in_place::load_le::<u8, Msb0, u8>(bytes, range.clone()));

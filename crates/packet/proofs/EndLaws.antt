@@ -1,40 +1,11 @@
 -- How the work ends.
-use Rattle.std.proofs.Common.{◌≡◌, ℕ, ◌≤◌, ◌⊎◌, List, length, Option, inl, inr, ⊎_elim, subst, arith}
-use Rattle.packet.specs.Faults.{status_of}
+use Rattle.std.proofs.Common.{◌≡◌, ℕ, ◌⊎◌, List, length, Option, inl, inr, ⊎_elim, subst, arith}
 use Rattle.packet.specs.Arguments.{AreAssignments, Named}
 use Rattle.packet.specs.Packets.{Place, packet_fields}
 use Rattle.packet.specs.Program.{Ends, GivesPacket, HasFault, PacketFault, PrintsAsked, PrintsFields, ReadFault}
 use Rattle.packet.specs.Resolved.{ChangesFault}
 use Rattle.packet.specs.declared.fault.Fault.{Fault}
-use Rattle.packet.specs.declared.fault.Fault.TheVariants.{Arguments, Input, Digit, Odd, Long, Truncated, Version, HeaderLength, Unknown, Fixed, Range, Memory}
-
-status-least : (fault : Fault) → 2 ≤ status_of fault
-status-least Memory = omega arith
-status-least Arguments = omega arith
-status-least Input = omega arith
-status-least Digit = omega arith
-status-least Odd = omega arith
-status-least Long = omega arith
-status-least Truncated = omega arith
-status-least Version = omega arith
-status-least HeaderLength = omega arith
-status-least (Unknown number) = omega arith
-status-least (Fixed number) = omega arith
-status-least (Range number) = omega arith
-
-status-most : (fault : Fault) → status_of fault ≤ 3
-status-most Memory = omega arith
-status-most Arguments = omega arith
-status-most Input = omega arith
-status-most Digit = omega arith
-status-most Odd = omega arith
-status-most Long = omega arith
-status-most Truncated = omega arith
-status-most Version = omega arith
-status-most HeaderLength = omega arith
-status-most (Unknown number) = omega arith
-status-most (Fixed number) = omega arith
-status-most (Range number) = omega arith
+use Rattle.packet.specs.declared.fault.Fault.TheVariants.{Memory}
 
 -- a packet whose assignments are no changes
 pub changes-fault : (list : List Named) (old new : Option (List ℕ)) (fault : Fault) (bytes : List ℕ) (places : List Place) → GivesPacket old new bytes → places ≡ packet_fields bytes
