@@ -637,7 +637,10 @@ class OwnBits : public Operators<Element, Order> {
     OwnBits() = default;
 
     // So many bits of one value.
-    explicit OwnBits(std::size_t size, bool bit = false) { resize(size, bit); }
+    template <class Size, class = std::enable_if_t<std::is_integral_v<Size> && !std::is_same_v<Size, bool>>>
+    explicit OwnBits(Size size, bool bit = false) {
+        resize(static_cast<std::size_t>(size), bit);
+    }
 
     // A copy of bits.
     explicit OwnBits(Right bits) { append(bits); }

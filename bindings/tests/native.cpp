@@ -292,6 +292,7 @@ void own_bits() {
     expect(bits.capacity() >= 1000, "room");
     bits.clear();
     expect(bits.empty(), "no bits");
+    expect(Own(0).empty() && Own(3, 1) == Own("111"), "bits of a length");
     expect_refused(FB_INDEX, [&] { bits.pop_back(); });
     expect_refused(FB_INDEX, [&] { bits.insert(1, true); });
     expect_refused(FB_RANGE, [&] { bits.erase(0, 1); });
