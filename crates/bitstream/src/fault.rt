@@ -1,27 +1,29 @@
 //! Why the words were not done.
+ghost use Rattle.std.specs.Prelude.{◌≡◌, Some};
+ghost use Rattle.bitstream.specs.Faults.{fault_text, status_of};
+ghost use Rattle.bitstream.specs.declared.fault.Fault.TheVariants.{Memory};
+
 use std::alloc::AllocError;
-use thiserror::Error;
+use std::fmt::{self, Display, Formatter};
 
 /// What ends the program without an answer. Its text is the line that is printed then.
-#[derive(Clone, Copy, Debug, Drop, Error)]
+#[derive(Clone, Copy)]
 pub enum Fault {
     /// The words are no request.
-    #[error("usage: bitstream encode NUMBER.. | decode BITS COUNT")]
     Arguments,
     /// The bits are not the codes of so many numbers.
-    #[error("not so many codes")]
     NoCode,
     /// There was no room for the words, the bits or the numbers.
-    #[error("out of memory")]
     Memory,
     /// The answer can't be printed.
-    #[error("the answer can't be printed")]
     Output,
 }
 
 impl Fault {
     /// The status that the program ends with.
-    pub fn status(&self) -> u8 {
+    pub fn status(&self) -> u8
+        ensures { result ≡ status_of self.now }
+    {
         match self {
             Fault::Output => 1,
             Fault::Arguments | Fault::NoCode => 2,
@@ -30,8 +32,23 @@ impl Fault {
     }
 }
 
+impl Display for Fault {
+    ghost output = { λ fault. Some (fault_text fault) };
+
+    fn fmt<W: fmt::Write>(&self, formatter: &mut Formatter<W>) -> fmt::Result {
+        formatter.write_str(match self {
+            Fault::Arguments => "usage: bitstream encode NUMBER.. | decode BITS COUNT",
+            Fault::NoCode => "not so many codes",
+            Fault::Memory => "out of memory",
+            Fault::Output => "the answer can't be printed",
+        })
+    }
+}
+
 impl From<AllocError> for Fault {
-    fn from(_error: AllocError) -> Self {
+    ghost from_gives = { λ _ fault. fault ≡ Memory };
+
+    fn from(_: AllocError) -> Self {
         Fault::Memory
     }
 }

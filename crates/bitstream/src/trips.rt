@@ -53,16 +53,3 @@ pub fn round_trip(bytes: &mut [u8], numbers: &[u64], taken: &mut [u64]) -> Resul
         Err(_) => unreachable!(),
     }
 }
-
-// The codes are 1, 00101 and 000010001.
-#[test]
-fn numbers_come_back(rt: HostRuntime) {
-    let numbers = [1, 5, 17];
-    let mut taken = [0; 3];
-    let mut bytes = [0u8; 2];
-    assert!(rt; round_trip(&mut bytes, &numbers, &mut taken) == Ok(()));
-    assert!(rt; bytes == [0x94, 0x22] && taken == numbers);
-    let mut byte = [0u8];
-    assert!(rt; round_trip(&mut byte, &numbers, &mut taken) == Err(CursorError::Full));
-    assert!(rt; byte == [0x94]);
-}
