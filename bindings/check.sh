@@ -40,7 +40,7 @@ make -s install PREFIX="$room" ${library:+"$library"} >&2
 export PKG_CONFIG_PATH=$room/lib/pkgconfig PYTHONDONTWRITEBYTECODE=1
 read -ra flags < <(pkg-config --cflags --libs fehimbary)
 read -ra include < <(pkg-config --cflags fehimbary)
-strict=(-Wall -Wextra -Wpedantic -Werror)
+strict=(-Wall -Wextra -Wpedantic -Wshadow -Werror)
 watched=(-g '-fsanitize=address,undefined' -fno-sanitize-recover=all)
 
 for standard in c99 c11 c17; do

@@ -51,7 +51,8 @@ enum {
     FB_SIZE = 10,  /* a memory has more than FB_MAX_BITS bits */
     FB_NONE = 11,  /* there is no such bit */
     FB_OP = 12,    /* there is no such command */
-    FB_ROOM = 13   /* fewer replies than steps */
+    FB_ROOM = 13,  /* fewer replies than steps */
+    FB_STEP = 14   /* every so many bits, where these are 0 */
 };
 
 #define FB_MAX_BITS (SIZE_MAX / 8)
@@ -135,11 +136,22 @@ FB_DECLARE(rotate_right, FB_EDITED, size_t by)
  * FB_SOURCE unless from <= to <= n, FB_DEST unless dest + (to - from) <= n. At most ceil((to - from) / 64) word steps. */
 FB_DECLARE(copy_within, FB_EDITED, size_t from, size_t to, size_t dest)
 
+/* Gives every so many bits, from the first one on, the value `bit`: those whose index is a multiple of `step`.
+ * FB_STEP where `step` is 0. ceil(n / step) loads and stores; with a step of at most 64, in a window of more than 64 * B bits, at
+ * most ceil(n / 64) + n / (448 * B) + 1 word steps. */
+FB_DECLARE(fill_step, FB_EDITED, size_t step, bool bit)
+
 /* ---- Edits by a second window, of another memory ---- */
 
 /* Copies the right bits, as many as n, to the window.
  * FB_LENGTH. At most ceil(n / 64) word steps. */
 FB_DECLARE_PLAIN(copy, FB_EDITED_BESIDE)
+
+/* Copies every so many right bits, from the first one on, to every so many bits of the window: the right bit at `k * right_step`
+ * to the bit at `k * step`, for each k.
+ * FB_STEP where a step is 0, FB_LENGTH unless ceil(n / step) = ceil(r / right_step). So many loads and stores, and as many
+ * loads on the right. */
+FB_DECLARE(copy_step, FB_EDITED_BESIDE, size_t step, size_t right_step)
 
 /* Makes each bit `bit & right bit`; bits past the end of the right window count as 0, and further right bits as none.
  * At most ceil(n / 64) word steps. */
@@ -166,6 +178,10 @@ FB_DECLARE(count_ones, FB_SEEN, size_t *ones)
 /* How many bits are 0.
  * At most ceil(n / 64) word steps: each element is loaded once. */
 FB_DECLARE(count_zeros, FB_SEEN, size_t *zeros)
+
+/* How many of every so many bits, from the first one on, are 1.
+ * FB_STEP where `step` is 0. ceil(n / step) loads. */
+FB_DECLARE(count_step, FB_SEEN, size_t step, size_t *ones)
 
 /* The least index of a 1.
  * FB_NONE. At most ceil(n / 64) word steps: each element is loaded at most once. */
@@ -218,6 +234,22 @@ FB_DECLARE(ends_with, FB_SEEN_BESIDE, bool *answer)
 /* Whether the right bits stand together somewhere in the window; no bits do in each.
  * At most (n - r + 1) * ceil(r / 64) word steps; none where r > n. */
 FB_DECLARE(contains, FB_SEEN_BESIDE, bool *answer)
+
+/* How many bits are 1 and have a 1 at their index in the right window, where bits past its end count as 0.
+ * At most ceil(n / 64) word steps on each side. */
+FB_DECLARE(count_and, FB_SEEN_BESIDE, size_t *pairs)
+
+/* How many bits differ from the one at their index in the right window, where bits past its end count as 0.
+ * At most ceil(n / 64) word steps on each side. */
+FB_DECLARE(count_xor, FB_SEEN_BESIDE, size_t *pairs)
+
+/* Whether there is no index at which both windows have a 1.
+ * At most ceil(n / 64) word steps on each side; none behind the first 64 bits that have such an index. */
+FB_DECLARE(disjoint, FB_SEEN_BESIDE, bool *answer)
+
+/* Whether at each 1 of the window the right one has a 1 too.
+ * At most ceil(n / 64) word steps on each side; none behind the first 64 bits that have another 1. */
+FB_DECLARE(subset, FB_SEEN_BESIDE, bool *answer)
 
 /* ---- Numbers ---- */
 

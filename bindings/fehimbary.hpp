@@ -1,19 +1,25 @@
 // Fehimbary for C++17: views of the bits of any memory, which are a pointer and two numbers, and ranges of bits for
 // <algorithm>. A call that is refused throws, and has written nothing. What each does and costs is said at the C function
-// of its name (fehimbary.h), with what a caller has to keep: the memory is there as long as the view is used, nobody
-// writes it meanwhile, and two views of one call that writes share no element.
+// of its name (fehimbary.h), with what a caller has to keep: the memory is there as long as the view is used, and nobody
+// writes it meanwhile. Right bits that share elements with those that are written are copied first.
 #ifndef FEHIMBARY_HPP
 #define FEHIMBARY_HPP
 
 #include "fehimbary.h"
 
+#include <algorithm>
 #include <cstddef>
 #include <cstdint>
+#include <functional>
+#include <initializer_list>
 #include <iterator>
 #include <optional>
+#include <ostream>
 #include <stdexcept>
 #include <string>
+#include <string_view>
 #include <type_traits>
+#include <utility>
 #include <vector>
 
 #if __cplusplus >= 202002L
@@ -36,27 +42,28 @@ struct Msb0 {
 inline const char *name_of(fb_status status) {
     constexpr const char *names[] = {"FB_DONE", "FB_RANGE", "FB_INDEX",  "FB_AMOUNT", "FB_SOURCE",
                                      "FB_DEST", "FB_RIGHT", "FB_LENGTH", "FB_WIDTH",  "FB_ORDER",
-                                     "FB_SIZE", "FB_NONE",  "FB_OP",     "FB_ROOM"};
+                                     "FB_SIZE", "FB_NONE",  "FB_OP",     "FB_ROOM",   "FB_STEP"};
     return status < sizeof names / sizeof *names ? names[status] : "no status";
 }
 
 // Why a call was refused.
 class Refused : public std::logic_error {
   public:
-    explicit Refused(fb_status status) : std::logic_error(name_of(status)), why(status) {}
+    explicit Refused(fb_status said) : std::logic_error(name_of(said)), why(said) {}
     fb_status status() const noexcept { return why; }
 
   private:
     fb_status why;
 };
 
-// The C functions of an element type.
-template <class Element>
+// The C functions of elements of so many bytes, which they take as the type `Word`.
+template <std::size_t bytes>
 struct Functions;
 
-#define FEHIMBARY_FUNCTIONS(Element, type)                                                                             \
+#define FEHIMBARY_FUNCTIONS(Number, type)                                                                             \
     template <>                                                                                                        \
-    struct Functions<Element> {                                                                                        \
+    struct Functions<sizeof(Number)> {                                                                                 \
+        using Word = Number;                                                                                           \
         static constexpr auto get = fb_##type##_get;                                                                   \
         static constexpr auto set = fb_##type##_set;                                                                   \
         static constexpr auto replace = fb_##type##_replace;                                                           \
@@ -74,6 +81,13 @@ struct Functions;
         static constexpr auto or_with = fb_##type##_or;                                                                \
         static constexpr auto xor_with = fb_##type##_xor;                                                              \
         static constexpr auto swap = fb_##type##_swap;                                                                 \
+        static constexpr auto fill_step = fb_##type##_fill_step;                                                       \
+        static constexpr auto copy_step = fb_##type##_copy_step;                                                       \
+        static constexpr auto count_step = fb_##type##_count_step;                                                     \
+        static constexpr auto count_and = fb_##type##_count_and;                                                       \
+        static constexpr auto count_xor = fb_##type##_count_xor;                                                       \
+        static constexpr auto disjoint = fb_##type##_disjoint;                                                         \
+        static constexpr auto subset = fb_##type##_subset;                                                             \
         static constexpr auto count_ones = fb_##type##_count_ones;                                                     \
         static constexpr auto count_zeros = fb_##type##_count_zeros;                                                   \
         static constexpr auto first_one = fb_##type##_first_one;                                                       \
@@ -101,25 +115,41 @@ FEHIMBARY_FUNCTIONS(std::uint32_t, u32)
 FEHIMBARY_FUNCTIONS(std::uint64_t, u64)
 #undef FEHIMBARY_FUNCTIONS
 
+// Elements are integers of any type but bool, or std::byte.
+template <class Element>
+using CallsOf = Functions<sizeof(std::enable_if_t<
+    (std::is_integral_v<Element> && !std::is_same_v<Element, bool>) || std::is_same_v<Element, std::byte>, Element>)>;
+
+// The elements as the C functions take them.
+template <class Element>
+auto words_of(Element *elements) {
+    using Word = typename CallsOf<std::remove_const_t<Element>>::Word;
+    return reinterpret_cast<std::conditional_t<std::is_const_v<Element>, const Word, Word> *>(elements);
+}
+
 template <class Element, class Order>
 class Bits;
+template <class Element, class Order>
+class OwnBits;
+template <class Element, class Order>
+class Operators;
 
 // One bit of a memory, as std::vector<bool>'s reference: it is read as a bool, and written by assignment.
 template <class Element, class Order>
 class Reference {
-    using Call = Functions<Element>;
+    using Call = CallsOf<Element>;
 
   public:
     Reference(const Reference &) = default;
 
     operator bool() const {
         bool bit = false;
-        Call::get(Order::order, element, 1, place, 1, 0, &bit);
+        Call::get(Order::order, words_of(element), 1, place, 1, 0, &bit);
         return bit;
     }
 
     const Reference &operator=(bool bit) const {
-        Call::set(Order::order, element, 1, place, 1, 0, bit);
+        Call::set(Order::order, words_of(element), 1, place, 1, 0, bit);
         return *this;
     }
     Reference &operator=(const Reference &other) {
@@ -127,6 +157,9 @@ class Reference {
         return *this;
     }
     void flip() const { *this = !*this; }
+    const Reference &operator&=(bool bit) const { return *this = *this & bit; }
+    const Reference &operator|=(bool bit) const { return *this = *this | bit; }
+    const Reference &operator^=(bool bit) const { return *this = *this ^ bit; }
 
     friend void swap(Reference a, Reference b) {
         const bool bit = a;
@@ -147,7 +180,7 @@ class Reference {
     Element *element;
     std::size_t place;
 
-    Reference(Element *element, std::size_t place) : element(element), place(place) {}
+    Reference(Element *of, std::size_t at) : element(of), place(at) {}
 };
 
 // A place among the bits of a memory.
@@ -174,7 +207,7 @@ class BitIterator {
         Element *const element = elements + place / width;
         if constexpr (std::is_const_v<Element>) {
             bool bit = false;
-            Functions<Value>::get(Order::order, element, 1, place % width, 1, 0, &bit);
+            CallsOf<Value>::get(Order::order, words_of(element), 1, place % width, 1, 0, &bit);
             return bit;
         } else {
             return reference(element, place % width);
@@ -226,7 +259,7 @@ class BitIterator {
     Element *elements = nullptr;
     std::size_t place = 0;
 
-    BitIterator(Element *elements, std::size_t place) : elements(elements), place(place) {}
+    BitIterator(Element *of, std::size_t at) : elements(of), place(at) {}
 };
 
 // The indices of the ones of a view, ascending; each is looked for when the walk comes to it.
@@ -265,7 +298,7 @@ class Ones {
         Seen bits;
         std::size_t index = 0;
 
-        iterator(Seen bits, std::size_t from) : bits(bits) { seek(from); }
+        iterator(Seen of, std::size_t from) : bits(of) { seek(from); }
 
         void seek(std::size_t from) { index = from + bits.part(from, bits.size()).first_one().value_or(bits.size() - from); }
     };
@@ -281,36 +314,63 @@ class Ones {
 
     Seen bits;
 
-    explicit Ones(Seen bits) : bits(bits) {}
+    explicit Ones(Seen of) : bits(of) {}
 };
 
-// Bits with a memory of their own, as `~` gives them.
-template <class Element, class Order = Lsb0>
-class OwnBits {
+// The right bits of a call, which may also be bits that end with it.
+template <class Element, class Order>
+class Operand : public Bits<const Element, Order> {
     using Seen = Bits<const Element, Order>;
 
   public:
-    // A copy of the bits of a view.
-    explicit OwnBits(Seen bits) : elements((bits.size() + 8 * sizeof(Element) - 1) / (8 * sizeof(Element))), len(bits.size()) {
-        view().copy_from(bits);
-    }
+    Operand(Seen bits) : Seen(bits) {}
+    Operand(Bits<Element, Order> bits) : Seen(bits) {}
+    Operand(const OwnBits<Element, Order> &bits) : Seen(bits.view()) {}
+};
 
-    Bits<Element, Order> view() { return Bits<Element, Order>(elements).part(0, len); }
-    Seen view() const { return Seen(elements).part(0, len); }
-    operator Seen() const { return view(); }
+// The operators on two operands, of which at least one is a view or has a memory of its own: a base of both.
+template <class Element, class Order>
+class Operators {
+    using Right = Operand<Element, Order>;
+    using Own = OwnBits<Element, Order>;
+
+  public:
+    friend bool operator==(Right a, Right b) { return a.equal(b); }
+    friend bool operator!=(Right a, Right b) { return !a.equal(b); }
+    friend bool operator<(Right a, Right b) { return a.compare(b) < 0; }
+    friend bool operator>(Right a, Right b) { return a.compare(b) > 0; }
+    friend bool operator<=(Right a, Right b) { return a.compare(b) <= 0; }
+    friend bool operator>=(Right a, Right b) { return a.compare(b) >= 0; }
+
+    // Bits with a memory of their own, as long as the left ones.
+    friend Own operator&(Right a, Right b) { return made(a, [&](auto bits) { bits &= b; }); }
+    friend Own operator|(Right a, Right b) { return made(a, [&](auto bits) { bits |= b; }); }
+    friend Own operator^(Right a, Right b) { return made(a, [&](auto bits) { bits ^= b; }); }
+    friend Own operator<<(Right a, std::size_t by) { return made(a, [&](auto bits) { bits <<= by; }); }
+    friend Own operator>>(Right a, std::size_t by) { return made(a, [&](auto bits) { bits >>= by; }); }
+    friend Own operator~(Right a) { return made(a, [](auto bits) { bits.invert(); }); }
+
+    friend std::ostream &operator<<(std::ostream &out, Right a) { return out << a.to_string(); }
 
   private:
-    std::vector<Element> elements;
-    std::size_t len;
+    template <class Edit>
+    static Own made(Right a, Edit edit) {
+        Own copy(a);
+        edit(copy.view());
+        return copy;
+    }
 };
 
 // Bits that stand together in a memory, a range of them. Who has the view may write, as with a pointer, also where the
 // view itself is const; `Bits<const Element>` is only read. Views are compared as words in a dictionary.
 template <class Element, class Order = Lsb0>
-class Bits {
+class Bits : public Operators<std::remove_const_t<Element>, Order> {
     using Value = std::remove_const_t<Element>;
-    using Call = Functions<Value>;
+    using Call = CallsOf<Value>;
+    using Word = typename Call::Word;
     using Seen = Bits<const Value, Order>;
+    using Right = Operand<Value, Order>;
+    using Own = OwnBits<Value, Order>;
     static constexpr std::size_t width = 8 * sizeof(Value);
 
     // What has its elements, of this type, behind one another: a vector, an array.
@@ -321,6 +381,8 @@ class Bits {
     using value_type = bool;
     using iterator = BitIterator<Element, Order>;
     using const_iterator = BitIterator<const Value, Order>;
+    using reverse_iterator = std::reverse_iterator<iterator>;
+    using const_reverse_iterator = std::reverse_iterator<const_iterator>;
     using reference = typename iterator::reference;
     using const_reference = bool;
     using size_type = std::size_t;
@@ -329,8 +391,8 @@ class Bits {
     Bits() = default;
 
     // All bits of so many elements.
-    Bits(Element *elements, std::size_t count) : elements(elements), len(count * width) {
-        if (count > FB_MAX_BITS / width)
+    Bits(Element *of, std::size_t number) : elements(of), len(number * width) {
+        if (number > FB_MAX_BITS / width)
             throw Refused(FB_SIZE);
     }
 
@@ -339,12 +401,16 @@ class Bits {
     Bits(Container &container) : Bits(std::data(container), std::size(container)) {}
 
 #ifdef __cpp_lib_span
-    Bits(std::span<Element> elements) : Bits(elements.data(), elements.size()) {}
+    Bits(std::span<Element> of) : Bits(of.data(), of.size()) {}
 #endif
 
     // What may be written may be read.
     template <class Other, class = std::enable_if_t<std::is_same_v<Element, const Other>>>
     Bits(Bits<Other, Order> other) : elements(other.elements), start(other.start), len(other.len) {}
+
+    // The bits that others have, while these are there.
+    Bits(std::conditional_t<std::is_const_v<Element>, const Own, Own> &own) : Bits(own.view()) {}
+    Bits(Own &&) = delete;
 
     std::size_t size() const { return len; }
     [[nodiscard]] bool empty() const { return len == 0; }
@@ -353,6 +419,10 @@ class Bits {
     iterator end() const { return iterator(elements, start + len); }
     const_iterator cbegin() const { return begin(); }
     const_iterator cend() const { return end(); }
+    reverse_iterator rbegin() const { return reverse_iterator(end()); }
+    reverse_iterator rend() const { return reverse_iterator(begin()); }
+    const_reverse_iterator crbegin() const { return rbegin(); }
+    const_reverse_iterator crend() const { return rend(); }
 
     // The bits from `from` up to, without, `to`, as a view of their own.
     Bits part(std::size_t from, std::size_t to) const {
@@ -367,7 +437,12 @@ class Bits {
             throw Refused(FB_INDEX);
         return begin()[static_cast<difference_type>(index)];
     }
-    void set(std::size_t index, bool bit) const { edit(Call::set, index, bit); }
+    reference front() const { return (*this)[0]; }
+    reference back() const { return (*this)[len - 1]; }
+    bool test(std::size_t index) const { return (*this)[index]; }
+    void set(std::size_t index, bool bit = true) const { edit(Call::set, index, bit); }
+    void reset(std::size_t index) const { set(index, false); }
+    void flip(std::size_t index) const { set(index, !test(index)); }
     bool replace(std::size_t index, bool bit) const {
         bool old = false;
         edit(Call::replace, index, bit, &old);
@@ -386,17 +461,30 @@ class Bits {
         edit(Call::copy_within, from, to, dest);
     }
 
-    void copy_from(Seen right) const { edit_by(Call::copy, right); }
-    void swap(Bits right) const { edit_by(Call::swap, right); }
-    const Bits &operator&=(Seen right) const { return edit_by(Call::and_with, right); }
-    const Bits &operator|=(Seen right) const { return edit_by(Call::or_with, right); }
-    const Bits &operator^=(Seen right) const { return edit_by(Call::xor_with, right); }
+    // Every so many bits from the first one on: written, and copied from every so many right ones, which are as many.
+    void fill_step(std::size_t step, bool bit) const { edit(Call::fill_step, step, bit); }
+    void copy_step(std::size_t step, Right right, std::size_t right_step = 1) const {
+        edit_by(Call::copy_step, right, step, right_step);
+    }
 
-    // The opposite bits, in a memory of their own.
-    OwnBits<Value, Order> operator~() const {
-        OwnBits<Value, Order> copy(*this);
-        copy.view().invert();
-        return copy;
+    void copy_from(Right right) const { edit_by(Call::copy, right); }
+    const Bits &operator&=(Right right) const { return edit_by(Call::and_with, right); }
+    const Bits &operator|=(Right right) const { return edit_by(Call::or_with, right); }
+    const Bits &operator^=(Right right) const { return edit_by(Call::xor_with, right); }
+    const Bits &operator<<=(std::size_t by) const { return edit(Call::shift_start, std::min(by, len)); }
+    const Bits &operator>>=(std::size_t by) const { return edit(Call::shift_end, std::min(by, len)); }
+
+    // Exchanges the bits. Refused as FB_RIGHT where some are of both.
+    void swap(Bits right) const {
+        if (meets(right))
+            throw Refused(FB_RIGHT);
+        if (!shares(right)) {
+            edit(Call::swap, words_of(right.elements), right.count(), right.start, right.len);
+        } else {
+            const Own copy(*this);
+            copy_from(right);
+            right.copy_from(copy);
+        }
     }
 
     std::size_t count_ones() const { return ask<std::size_t>(Call::count_ones); }
@@ -407,6 +495,8 @@ class Bits {
     std::optional<std::size_t> last_zero() const { return find(Call::last_zero); }
     bool any() const { return ask<bool>(Call::any); }
     bool all() const { return ask<bool>(Call::all); }
+    bool none() const { return !any(); }
+    std::size_t count_step(std::size_t step) const { return ask<std::size_t>(Call::count_step, step); }
 
     // The indices of the ones: a range of them, or as the C function writes them.
     Ones<Value, Order> ones() const { return Ones<Value, Order>(*this); }
@@ -414,17 +504,15 @@ class Bits {
         return ask<std::size_t>(Call::ones, from, indices, room);
     }
 
-    int compare(Seen right) const { return ask_with<std::int32_t>(Call::compare, right); }
-    bool starts_with(Seen right) const { return ask_with<bool>(Call::starts_with, right); }
-    bool ends_with(Seen right) const { return ask_with<bool>(Call::ends_with, right); }
-    bool contains(Seen right) const { return ask_with<bool>(Call::contains, right); }
-
-    friend bool operator==(Bits left, Seen right) { return left.template ask_with<bool>(Call::equal, right); }
-    friend bool operator!=(Bits left, Seen right) { return !(left == right); }
-    friend bool operator<(Bits left, Seen right) { return left.compare(right) < 0; }
-    friend bool operator>(Bits left, Seen right) { return left.compare(right) > 0; }
-    friend bool operator<=(Bits left, Seen right) { return left.compare(right) <= 0; }
-    friend bool operator>=(Bits left, Seen right) { return left.compare(right) >= 0; }
+    bool equal(Right right) const { return ask_with<bool>(Call::equal, right); }
+    int compare(Right right) const { return ask_with<std::int32_t>(Call::compare, right); }
+    bool starts_with(Right right) const { return ask_with<bool>(Call::starts_with, right); }
+    bool ends_with(Right right) const { return ask_with<bool>(Call::ends_with, right); }
+    bool contains(Right right) const { return ask_with<bool>(Call::contains, right); }
+    std::size_t count_and(Right right) const { return ask_with<std::size_t>(Call::count_and, right); }
+    std::size_t count_xor(Right right) const { return ask_with<std::size_t>(Call::count_xor, right); }
+    bool intersects(Right right) const { return !ask_with<bool>(Call::disjoint, right); }
+    bool is_subset_of(Right right) const { return ask_with<bool>(Call::subset, right); }
 
     // The bits as digits.
     std::string to_string() const {
@@ -439,27 +527,47 @@ class Bits {
     void store_le(std::uint64_t number) const { edit(Call::store_le, number); }
     void store_be(std::uint64_t number) const { edit(Call::store_be, number); }
 
+    // Refused as FB_RIGHT where the right elements are some of these.
     void run(const Value *right, std::size_t right_count, const fb_step *steps, std::size_t step_count,
              fb_reply *replies, std::size_t reply_count) const {
-        edit(Call::run, right, right_count, steps, step_count, replies, reply_count);
+        if (apart(right, right_count))
+            edit(Call::run, words_of(right), right_count, steps, step_count, replies, reply_count);
+        else
+            throw Refused(FB_RIGHT);
     }
 
   private:
     template <class, class>
     friend class Bits;
+    template <class, class>
+    friend class OwnBits;
 
     // The first bit is bit `start` of the first element, and is one of it.
     Element *elements = nullptr;
     std::size_t start = 0, len = 0;
 
-    Bits(Element *elements, std::size_t start, std::size_t len) : elements(elements), start(start), len(len) {}
+    Bits(Element *of, std::size_t from, std::size_t size) : elements(of), start(from), len(size) {}
 
     // The elements up to the one with the last bit.
     std::size_t count() const { return (start + len + width - 1) / width; }
 
+    // Whether other elements are none of these; whether right bits have elements in common with these, or bits.
+    bool apart(const Value *other, std::size_t number) const {
+        const std::less<const Value *> before{};
+        return number == 0 || count() == 0 || !before(elements, other + number) || !before(other, elements + count());
+    }
+    bool shares(Seen right) const { return !apart(right.elements, right.count()); }
+    bool meets(Seen right) const {
+        if (!shares(right))
+            return false;
+        const auto from = (right.elements - elements) * static_cast<difference_type>(width) +
+                          static_cast<difference_type>(right.start) - static_cast<difference_type>(start);
+        return from < static_cast<difference_type>(len) && -from < static_cast<difference_type>(right.len);
+    }
+
     template <class Function, class... Arguments>
     fb_status status(Function function, Arguments... arguments) const {
-        return function(Order::order, elements, count(), start, len, arguments...);
+        return function(Order::order, words_of(elements), count(), start, len, arguments...);
     }
 
     template <class Function, class... Arguments>
@@ -476,9 +584,13 @@ class Bits {
         return *this;
     }
 
-    template <class Function, class Right>
-    const Bits &edit_by(Function function, Right right) const {
-        return edit(function, right.elements, right.count(), right.start, right.len);
+    // An edit by right bits, which are copied where they share elements with these.
+    template <class Function, class... Arguments>
+    const Bits &edit_by(Function function, Seen right, Arguments... arguments) const {
+        if (!shares(right))
+            return edit(function, words_of(right.elements), right.count(), right.start, right.len, arguments...);
+        const Own copy(right);
+        return edit_by(function, copy.view(), arguments...);
     }
 
     template <class Answer, class Function, class... Arguments>
@@ -489,8 +601,8 @@ class Bits {
     }
 
     template <class Answer, class Function>
-    Answer ask_with(Function function, Seen right) const {
-        return ask<Answer>(function, right.elements, right.count(), right.start, right.len);
+    Answer ask_with(Function function, const Seen &right) const {
+        return ask<Answer>(function, words_of(right.elements), right.count(), right.start, right.len);
     }
 
     template <class Function>
@@ -502,6 +614,154 @@ class Bits {
         if (said != FB_DONE)
             throw Refused(said);
         return index;
+    }
+};
+
+// Bits with a memory of their own, a sequence that grows; what else views do, `view()` does.
+template <class Element, class Order = Lsb0>
+class OwnBits : public Operators<Element, Order> {
+    using View = Bits<Element, Order>;
+    using Seen = Bits<const Element, Order>;
+    using Right = Operand<Element, Order>;
+    static constexpr std::size_t width = 8 * sizeof(Element);
+
+  public:
+    using value_type = bool;
+    using iterator = typename View::iterator;
+    using const_iterator = typename Seen::iterator;
+    using reference = typename View::reference;
+    using const_reference = bool;
+    using size_type = std::size_t;
+    using difference_type = std::ptrdiff_t;
+
+    OwnBits() = default;
+
+    // So many bits of one value.
+    explicit OwnBits(std::size_t size, bool bit = false) { resize(size, bit); }
+
+    // A copy of bits.
+    explicit OwnBits(Right bits) { append(bits); }
+
+    // The bits of a text of 0 and 1. std::invalid_argument: another character.
+    explicit OwnBits(std::string_view digits) : OwnBits(digits.size()) {
+        for (std::size_t index = 0; index < digits.size(); ++index)
+            if (digits[index] == '1')
+                view().set(index);
+            else if (digits[index] != '0')
+                throw std::invalid_argument("a digit that is neither 0 nor 1");
+    }
+    explicit OwnBits(const char *digits) : OwnBits(std::string_view(digits)) {}
+
+    // The bits of a range of truth values.
+    template <class Iterator, class = typename std::iterator_traits<Iterator>::iterator_category>
+    OwnBits(Iterator first, Iterator last) {
+        for (; first != last; ++first)
+            push_back(static_cast<bool>(*first));
+    }
+    OwnBits(std::initializer_list<bool> bits) : OwnBits(bits.begin(), bits.end()) {}
+
+    OwnBits(const OwnBits &) = default;
+    OwnBits &operator=(const OwnBits &) = default;
+    OwnBits(OwnBits &&other) noexcept : elements(std::move(other.elements)), len(std::exchange(other.len, 0)) {
+        other.elements.clear();
+    }
+    OwnBits &operator=(OwnBits &&other) noexcept {
+        elements = std::move(other.elements);
+        len = std::exchange(other.len, 0);
+        other.elements.clear();
+        return *this;
+    }
+
+    // All bits, as a view that is good until they change their number.
+    View view() & { return View(elements).part(0, len); }
+    Seen view() const & { return Seen(elements).part(0, len); }
+    void view() && = delete;
+    void view() const && = delete;
+
+    std::size_t size() const { return len; }
+    [[nodiscard]] bool empty() const { return len == 0; }
+    std::size_t capacity() const { return elements.capacity() * width; }
+    void reserve(std::size_t size) { elements.reserve(elements_of(size)); }
+
+    iterator begin() & { return view().begin(); }
+    iterator end() & { return view().end(); }
+    const_iterator begin() const & { return view().begin(); }
+    const_iterator end() const & { return view().end(); }
+    const_iterator cbegin() const & { return begin(); }
+    const_iterator cend() const & { return end(); }
+    void begin() && = delete;
+    void end() && = delete;
+
+    reference operator[](std::size_t index) { return view()[index]; }
+    bool operator[](std::size_t index) const { return view()[index]; }
+    bool test(std::size_t index) const { return view()[index]; }
+    std::size_t count_ones() const { return view().count_ones(); }
+    bool any() const { return view().any(); }
+    bool all() const { return view().all(); }
+    bool none() const { return view().none(); }
+    std::string to_string() const { return view().to_string(); }
+
+    OwnBits &operator&=(Right right) { return view() &= right, *this; }
+    OwnBits &operator|=(Right right) { return view() |= right, *this; }
+    OwnBits &operator^=(Right right) { return view() ^= right, *this; }
+    OwnBits &operator<<=(std::size_t by) { return view() <<= by, *this; }
+    OwnBits &operator>>=(std::size_t by) { return view() >>= by, *this; }
+
+    void clear() { resize(0); }
+    void resize(std::size_t size, bool bit = false) {
+        const std::size_t old = len;
+        elements.resize(elements_of(size));
+        len = size;
+        if (size > old)
+            view().part(old, size).fill(bit);
+    }
+    void push_back(bool bit) { resize(len + 1, bit); }
+    void pop_back() { erase(len - 1); }
+
+    // The bits behind the last, or before the one at an index; they may be some of these.
+    void append(Right bits) { insert(len, bits); }
+    void insert(std::size_t index, bool bit) {
+        make_room(index, 1);
+        view().set(index, bit);
+    }
+    void insert(std::size_t index, Right bits) {
+        if (Seen(*this).shares(bits)) {
+            const OwnBits copy(bits);
+            return insert(index, copy);
+        }
+        make_room(index, bits.size());
+        view().part(index, index + bits.size()).copy_from(bits);
+    }
+
+    // Takes away the bit at an index, or those from `from` up to, without, `to`.
+    void erase(std::size_t index) {
+        if (index >= len)
+            throw Refused(FB_INDEX);
+        erase(index, index + 1);
+    }
+    void erase(std::size_t from, std::size_t to) {
+        if (from > to || to > len)
+            throw Refused(FB_RANGE);
+        view().copy_within(to, len, from);
+        resize(len - (to - from));
+    }
+
+  private:
+    std::vector<Element> elements;
+    std::size_t len = 0;
+
+    static std::size_t elements_of(std::size_t size) {
+        if (size > FB_MAX_BITS)
+            throw Refused(FB_SIZE);
+        return (size + width - 1) / width;
+    }
+
+    void make_room(std::size_t index, std::size_t size) {
+        if (index > len)
+            throw Refused(FB_INDEX);
+        const std::size_t old = len;
+        resize(size > FB_MAX_BITS - old ? FB_MAX_BITS + 1 : old + size);
+        view().copy_within(index, old, index + size);
     }
 };
 

@@ -22,6 +22,11 @@ static void NAME(ask)(const struct place *at, const ELEMENT *left, const ELEMENT
     CALL("count_ones", 0, FB(count_ones)(WINDOW, &place));
     CALL("count_zeros", 0, FB(count_zeros)(WINDOW, &place));
     CALL("ones", found, FB(ones)(WINDOW, 0, indices, 16, &found));
+    CALL("count_step", 3, FB(count_step)(WINDOW, 3, &place));
+    CALL("count_and", n, FB(count_and)(WINDOW, RIGHT(n), &place));
+    CALL("count_xor", n / 2, FB(count_xor)(WINDOW, RIGHT(n / 2), &place));
+    CALL("disjoint", n, FB(disjoint)(WINDOW, RIGHT(n), &answer));
+    CALL("subset", n, FB(subset)(WINDOW, RIGHT(n), &answer));
     CALL("equal", n, FB(equal)(WINDOW, RIGHT(n), &answer));
     CALL("compare", n, FB(compare)(WINDOW, RIGHT(n), &order));
     CALL("starts_with", n, FB(starts_with)(WINDOW, RIGHT(n), &answer));
@@ -60,6 +65,9 @@ static void NAME(edit)(const struct place *at, ELEMENT *left) {
     CALL("swap_bits", 0, FB(swap_bits)(WINDOW, 0, n / 2));
     CALL("fill", 0, FB(fill)(WINDOW, false));
     CALL("fill", 1, FB(fill)(WINDOW, true));
+    CALL("fill_step", 3, FB(fill_step)(WINDOW, 3, true));
+    CALL("fill_step", 64, FB(fill_step)(WINDOW, 64, false));
+    CALL("fill_step", 65, FB(fill_step)(WINDOW, 65, true));
     CALL("invert", 0, FB(invert)(WINDOW));
     CALL("reverse", 0, FB(reverse)(WINDOW));
     const size_t amounts[] = {n < 5 ? n : 5, n / 3, n};
@@ -81,6 +89,8 @@ static void NAME(edit)(const struct place *at, ELEMENT *left) {
 static void NAME(edit_beside)(const struct place *at, ELEMENT *left, ELEMENT *right) {
     size_t n = at->len;
     CALL("copy", n, FB(copy)(WINDOW, RIGHT(n)));
+    CALL("copy_step", 3, FB(copy_step)(WINDOW, RIGHT(n / 3 + (n % 3 != 0)), 3, 1));
+    CALL("copy_step", 9, FB(copy_step)(WINDOW, RIGHT(n), 9, 9));
     CALL("and", n, FB(and)(WINDOW, RIGHT(n)));
     CALL("or", n, FB(or)(WINDOW, RIGHT(n)));
     CALL("xor", n, FB(xor)(WINDOW, RIGHT(n)));

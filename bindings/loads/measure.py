@@ -52,6 +52,16 @@ def touched(call):
     return (call.start + call.len - 1) // call.bits - call.start // call.bits + 1
 
 
+def times(call):
+    """How many bits are every so many of a window."""
+    return -(-call.len // call.about)
+
+
+def is_near(call):
+    """Whether every so many bits are filled by elements."""
+    return call.about <= 64 and call.len > 64 * call.bits
+
+
 NONE = (0, 0)
 COSTS = {
     "get": lambda call: (1, 0) + NONE,
@@ -68,6 +78,10 @@ COSTS = {
     "combine": lambda call: edit(steps(call.len), call) + read(steps(call.len), call),
     "swap": lambda call: edit(steps(call.len), call) * 2,
     "scan": lambda call: (touched(call), 0) + NONE,
+    "fill_step": lambda call: (edit(steps(call.len) + call.len // (448 * call.bits) + 1, call) if is_near(call) else 2 * (times(call),)) + NONE,
+    "copy_step": lambda call: 3 * (times(call),) + (0,),
+    "count_step": lambda call: (times(call), 0) + NONE,
+    "pairs": lambda call: read(steps(call.len), call) * 2,
     "ones": lambda call: (touched(call) + call.about, 0) + NONE,
     "equal": lambda call: read(steps(call.len), call) * 2,
     "compare": lambda call: (min(call.len, call.about), 0) * 2,
@@ -82,6 +96,7 @@ KINDS = {
     **dict.fromkeys(("and", "or", "xor"), "combine"),
     **dict.fromkeys(("count_ones", "count_zeros", "first_one", "first_zero", "last_one", "last_zero", "any", "all"), "scan"),
     **dict.fromkeys(("starts_with", "ends_with"), "needle"),
+    **dict.fromkeys(("count_and", "count_xor", "disjoint", "subset"), "pairs"),
     **dict.fromkeys(("load_le", "load_be"), "load"),
     **dict.fromkeys(("store_le", "store_be"), "store"),
 }

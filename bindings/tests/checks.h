@@ -194,6 +194,92 @@ static void NAME(check_ones)(struct NAME(memory) left) {
     free(indices);
 }
 
+/* How many of so many bits are every so many from the first one on. */
+static size_t NAME(places)(size_t len, size_t by) { return len / by + (len % by != 0); }
+
+/* What is made of a window's list by every so many bits of it, and of every so many right bits. */
+static void NAME(check_steps)(struct NAME(memory) left, struct NAME(memory) right) {
+    static struct list list, right_list;
+    struct call at = NAME(random_call)(left, right, MOST_BITS);
+    size_t by = random_below(random_below(3) == 0 ? 700 : 70), right_by = random_below(20);
+    size_t len = at.len <= left.count * WIDTH ? at.len : 0, many = by == 0 ? 0 : NAME(places)(len, by);
+    fb_step step = random_arguments(FB_COPY, len, right.count * WIDTH);
+    step.third = by;
+    if (many != 0 && random_below(8) != 0)
+        step.second = (many - 1) * right_by + 1;
+    size_t untold = random_number(), ones = untold, wanted_ones = 0;
+    bool bit = random_below(2) == 0;
+    fb_status wanted = NAME(window_status)(&at);
+    NAME(keep)(NAME(left_wanted), left);
+    if (wanted == FB_DONE)
+        NAME(read)(&list, left.elements, at.order, at.start, at.len);
+    fb_status filled = wanted == FB_DONE && by == 0 ? FB_STEP : wanted, copied = wanted;
+    for (size_t k = 0; filled == FB_DONE && k < many; ++k)
+        wanted_ones += list.bits[k * by];
+    expect(FB(count_step)(at.order, left.elements, at.left_count, at.start, at.len, by, &ones) == filled,
+           "the status of count_step", WIDTH, &at, &step);
+    expect(ones == (filled == FB_DONE ? wanted_ones : untold), "every so many ones", WIDTH, &at, &step);
+    if (copied == FB_DONE && !lies_in(step.first, step.second, right.count * WIDTH))
+        copied = FB_RIGHT;
+    if (copied == FB_DONE && (by == 0 || right_by == 0))
+        copied = FB_STEP;
+    if (copied == FB_DONE && many != NAME(places)(step.second, right_by))
+        copied = FB_LENGTH;
+    if (copied == FB_DONE) {
+        NAME(read)(&right_list, right.elements, at.order, step.first, step.second);
+        for (size_t k = 0; k < many; ++k)
+            list.bits[k * by] = right_list.bits[k * right_by];
+        NAME(write)(NAME(left_wanted), at.order, at.start, &list);
+    }
+    expect(FB(copy_step)(at.order, left.elements, at.left_count, at.start, at.len, right.elements, at.right_count,
+                         step.first, step.second, by, right_by) == copied,
+           "the status of copy_step", WIDTH, &at, &step);
+    expect(NAME(is_as)(left, NAME(left_wanted)), "the memory of copy_step", WIDTH, &at, &step);
+    for (size_t k = 0; filled == FB_DONE && k < many; ++k)
+        list.bits[k * by] = bit;
+    if (filled == FB_DONE)
+        NAME(write)(NAME(left_wanted), at.order, at.start, &list);
+    expect(FB(fill_step)(at.order, left.elements, at.left_count, at.start, at.len, by, bit) == filled,
+           "the status of fill_step", WIDTH, &at, &step);
+    expect(NAME(is_as)(left, NAME(left_wanted)), "the memory of fill_step", WIDTH, &at, &step);
+}
+
+/* What two windows have in common. */
+static void NAME(check_pairs)(struct NAME(memory) left, struct NAME(memory) right) {
+    static struct list list, right_list;
+    struct call at = NAME(random_call)(left, right, MOST_BITS);
+    fb_step step = random_arguments(FB_AND, at.len <= left.count * WIDTH ? at.len : 0, right.count * WIDTH);
+    size_t untold = random_number(), both = untold, differing = untold, wanted_both = 0, wanted_differing = 0, first = 0;
+    bool unwritten = random_below(2) == 0, disjoint = unwritten, subset = unwritten;
+    fb_status wanted = NAME(window_status)(&at);
+    if (wanted == FB_DONE && !lies_in(step.first, step.second, right.count * WIDTH))
+        wanted = FB_RIGHT;
+    if (wanted == FB_DONE) {
+        NAME(read)(&list, left.elements, at.order, at.start, at.len);
+        NAME(read)(&right_list, right.elements, at.order, step.first, step.second);
+        for (size_t i = 0; i < list.len; ++i) {
+            bool bit = list.bits[i], other = i < right_list.len && right_list.bits[i];
+            wanted_both += bit && other;
+            wanted_differing += bit != other;
+            first += bit && !other;
+        }
+    }
+#define ASK(stem, answer)                                                                                              \
+    expect(FB(stem)(at.order, left.elements, at.left_count, at.start, at.len, right.elements, at.right_count,          \
+                    step.first, step.second, &answer) == wanted,                                                      \
+           "the status of " #stem, WIDTH, &at, &step)
+    ASK(count_and, both);
+    ASK(count_xor, differing);
+    ASK(disjoint, disjoint);
+    ASK(subset, subset);
+#undef ASK
+    bool told = wanted == FB_DONE;
+    expect(both == (told ? wanted_both : untold), "count_and", WIDTH, &at, &step);
+    expect(differing == (told ? wanted_differing : untold), "count_xor", WIDTH, &at, &step);
+    expect(disjoint == (told ? wanted_both == 0 : unwritten), "disjoint", WIDTH, &at, &step);
+    expect(subset == (told ? first == 0 : unwritten), "subset", WIDTH, &at, &step);
+}
+
 /* What a run of the steps has to answer, and, where that is FB_DONE, the replies, and what it has to leave in the
  * wanted memory. */
 static fb_status NAME(wanted_run)(struct NAME(memory) left, struct NAME(memory) right, const struct call *at,
@@ -256,6 +342,8 @@ static void NAME(check)(size_t windows) {
         NAME(scatter)(left);
         NAME(check_swap)(left, right);
         NAME(check_ones)(left);
+        NAME(check_steps)(left, right);
+        NAME(check_pairs)(left, right);
         NAME(check_run)(left, right);
         free(left.elements);
         free(right.elements);

@@ -14,7 +14,7 @@ def status_of(call, *arguments):
     try:
         return "FB_DONE", call(*arguments)
     except Refused as refused:
-        return str(refused), None
+        return f"FB_{refused.status.name}", None
 
 
 def size_up_to(most):
@@ -109,6 +109,31 @@ def check_transfers(left, right):
     expect(right.all_bits() == swapped, "the right memory after swap")
 
 
+def check_steps(left, right):
+    """Every so many bits of a window: counted, copied and filled."""
+    bits, by, bit = left.list(), random.randint(1, 70), random.getrandbits(1)
+    part = slice(*(random.choice([None, random.randint(-len(bits) - 3, len(bits) + 3)]) for _ in range(2)), random.choice([by, -by, 1]))
+    wanted, those = list(bits), right.list()[: len(bits[part])]
+    expect(list(left.view()[part]) == bits[part], "a part with a step")
+    expect(left.view().count(bit, part.start, part.stop, part.step) == bits[part].count(bit), "count with a step")
+    status, _ = status_of(left.view().__setitem__, part, right.view()[: len(bits[part])])
+    if len(those) == len(bits[part]):
+        wanted[part] = those
+    expect(status == ("FB_DONE" if len(those) == len(bits[part]) else "FB_LENGTH"), "the status of a copy with a step")
+    expect(left.all_bits() == left.with_list(wanted), "the memory after a copy with a step")
+    left.view()[part] = bit
+    wanted[part] = len(bits[part]) * [bit]
+    expect(left.all_bits() == left.with_list(wanted), "the memory after a fill with a step")
+
+
+def check_pairs(left, right):
+    bits, other = left.list(), (right.list() + len(left.list()) * [0])[: len(left.list())]
+    both, first = sum(map(int.__and__, bits, other)), sum(a > b for a, b in zip(bits, other))
+    view, beside = left.view(), right.view()
+    expect((view.count_and(beside), view.count_xor(beside)) == (both, sum(map(int.__ne__, bits, other))), "count_and, count_xor")
+    expect((view.isdisjoint(beside), view.issubset(beside), beside.issuperset(view)) == (both == 0, first == 0, first == 0), "a subset")
+
+
 def index_of(bits, bit):
     return bits.index(bit) if bit in bits else None
 
@@ -193,6 +218,8 @@ def main():
                 check_questions(left)
                 check_comparisons(left, right)
                 check_run(left, right)
+                check_steps(left, right)
+                check_pairs(left, right)
                 check_numbers(right)
         print(f"elements of {BITS[code]} bits: every method on {2 * windows} views")
 

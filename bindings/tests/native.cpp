@@ -7,6 +7,7 @@
 #include <cstdlib>
 #include <iterator>
 #include <numeric>
+#include <sstream>
 #include <string>
 #include <vector>
 
@@ -15,8 +16,10 @@ namespace {
 using fehimbary::Bits;
 using fehimbary::Lsb0;
 using fehimbary::Msb0;
+using fehimbary::OwnBits;
 using View = Bits<uint8_t>;
 using Seen = Bits<const uint8_t>;
+using Own = OwnBits<uint8_t>;
 
 void expect(bool holds, const char *what) {
     if (holds)
@@ -43,7 +46,15 @@ static_assert(std::is_convertible_v<View::iterator, Seen::iterator> && !std::is_
 static_assert(!std::is_constructible_v<View, const std::vector<uint8_t> &> && !std::is_constructible_v<View, std::vector<int> &>);
 static_assert(!std::is_constructible_v<View, std::vector<uint8_t>>, "a vector that ends with the call");
 static_assert(std::is_constructible_v<Seen, const std::vector<uint8_t> &> && std::is_constructible_v<Seen, std::vector<uint8_t> &>);
+static_assert(std::is_constructible_v<View, Own &> && std::is_constructible_v<Seen, const Own &> && !std::is_constructible_v<View, const Own &>);
+static_assert(!std::is_convertible_v<Own, Seen> && !std::is_constructible_v<Seen, Own> && !std::is_constructible_v<View, Own>,
+              "bits that end with the call");
+static_assert(std::is_nothrow_move_constructible_v<Own> && std::is_nothrow_move_assignable_v<Own>);
 #if __cplusplus >= 202002L
+template <class Bits>
+concept HasView = requires(Bits &&bits) { std::forward<Bits>(bits).view(); std::forward<Bits>(bits).begin(); };
+static_assert(HasView<Own &> && HasView<const Own &> && !HasView<Own> && !HasView<const Own>, "bits that end with the call");
+static_assert(std::ranges::random_access_range<Own &>);
 static_assert(std::random_access_iterator<View::iterator> && std::random_access_iterator<Seen::iterator>);
 static_assert(std::indirectly_writable<View::iterator, bool> && !std::indirectly_writable<Seen::iterator, bool>);
 static_assert(std::ranges::view<View> && std::ranges::random_access_range<View> && std::ranges::sized_range<View>);
@@ -69,6 +80,8 @@ struct Memory {
 
 void ranges() {
     Memory memory;
+    for (bool bit : memory.view | ~memory.view) // bits that last as long as the loop
+        expect(bit, "a range-for over bits of their own");
     size_t count = 0;
     for (bool bit : Seen(memory.view))
         count += bit;
@@ -182,6 +195,135 @@ void containers() {
 #endif
 }
 
+void steps() {
+    Memory memory;
+    memory.view.fill_step(3, true);
+    memory.check("11111010111110", "every third bit");
+    expect(memory.view.count_step(3) == 5 && memory.view.part(1, 14).count_step(2) == 4, "how many of every so many");
+    memory.view.part(1, 14).copy_step(2, Own("0110100"));
+    memory.check("10111110111010", "bits copied to every second");
+    memory.view.part(0, 5).copy_step(1, memory.view, 3);
+    memory.check("11111110111010", "every third bit copied to others of the same memory");
+    expect_refused(FB_STEP, [&] { memory.view.fill_step(0, true); });
+    expect_refused(FB_LENGTH, [&] { memory.view.copy_step(2, Own("01")); });
+}
+
+void two_windows() {
+    Memory memory, other;
+    const View view = memory.view;
+    expect(view.count_and(other.view) == 6 && view.count_xor(Own("11")) == 6 && view.intersects(other.view) && !view.intersects(~view),
+           "pairs of bits");
+    expect(view.is_subset_of(other.view) && !view.is_subset_of(other.view.part(0, 9)) && View().is_subset_of(view), "a subset");
+    expect((view & ~view).none() && (view | ~view).all() && (view | ~view).count_ones() == 14 && (view ^ other.view) == Own(14), "operators of two");
+    expect((view << 3) == Own("01000101100000") && (view >> 99) == Own(14) && View(view) == view, "operators with a number");
+    std::ostringstream said;
+    said << view << ' ' << view.part(0, 2);
+    expect(said.str() == "01101000101100 01", "bits written to a stream");
+    expect(!view.front() && !view.back() && view.test(1) && !view.none(), "a bit asked for");
+    expect(std::string(view.rbegin(), view.rend()) == std::string("\0\0\1\1\0\1\0\0\0\1\0\1\1\0", 14), "bits from the last on");
+    view.set(0);
+    view.reset(1);
+    view.flip(2);
+    view[3] |= true;
+    view[4] &= false;
+    view[5] ^= true;
+    memory.check("10010100101100", "bits set by name");
+    (void)(view <<= 99);
+    memory.check("00000000000000", "a shift by more than there are");
+}
+
+// Each edit by bits of the same memory does what one by a copy of them does.
+void overlapping() {
+    for (size_t from = 0; from < 20; ++from)
+        for (size_t to = 0; to < 20; ++to)
+            for (size_t len = 0; len <= 24 - std::max(from, to); ++len)
+                for (int edit = 0; edit < 5; ++edit) {
+                    uint8_t elements[] = {0x5A, 0xC7, 0x39}, wanted[] = {0x5A, 0xC7, 0x39};
+                    const auto change = [edit](View left, const auto &right) {
+                        edit == 0   ? left.copy_from(right)
+                        : edit == 1 ? void(left &= right)
+                        : edit == 2 ? void(left |= right)
+                        : edit == 3 ? void(left ^= right)
+                                    : left.copy_step(1, right);
+                    };
+                    const View all(elements), model(wanted);
+                    change(all.part(to, to + len), all.part(from, from + len));
+                    change(model.part(to, to + len), Own(model.part(from, from + len)));
+                    expect(std::equal(elements, elements + 3, wanted), "bits that overlap");
+                }
+    uint8_t elements[] = {0x1B, 0xFF};
+    const View all(elements);
+    all.part(0, 3).swap(all.part(4, 7));
+    expect(all.to_string() == "1001110011111111", "parts of one element exchanged");
+    expect_refused(FB_RIGHT, [&] { all.part(0, 3).swap(all.part(2, 5)); });
+    expect_refused(FB_RIGHT, [&] { all.run(elements + 1, 1, nullptr, 0, nullptr, 0); });
+}
+
+void own_bits() {
+    Own bits("0110");
+    bits.push_back(true);
+    bits.append(Own{true, false});
+    bits.insert(0, true);
+    bits.insert(3, Own(20, true));
+    expect(bits.to_string() == "101" + std::string(20, '1') + "10110" && bits.size() == 28 && bits.capacity() >= 28, "bits that grow");
+    bits.erase(3, 23);
+    bits.erase(0);
+    bits.pop_back();
+    expect(bits == Own("011011") && bits[1] && !std::as_const(bits)[0], "bits taken away");
+    bits.append(bits);
+    bits.insert(1, bits.view().part(4, 8));
+    expect(bits == Own("0110111011011011"), "bits added to themselves");
+    bits.resize(3);
+    bits.resize(20, true);
+    bits.resize(22);
+    expect(bits == Own("0111111111111111111100"), "bits of another length");
+    bits[21] = true;
+    for (auto bit : bits)
+        bit.flip();
+    (bits ^= Own("1")) <<= 1;
+    expect(std::count(bits.begin(), bits.end(), true) == 1 && bits[19] && bits != Own(22) && Own(22) < bits, "bits edited");
+    const std::vector<bool> list{true, false, true};
+    expect(Own(list.begin(), list.end()) == Own("101") && Own(std::string_view("10")).size() == 2, "bits of a range and of a text");
+    Own moved = std::move(bits);
+    expect(bits.empty() && bits.view().size() == 0 && bits == Own() && moved.size() == 22, "bits that were moved from");
+    bits = std::move(moved);
+    expect(moved.empty() && bits.size() == 22, "bits that were moved");
+    bits.reserve(1000);
+    expect(bits.capacity() >= 1000, "room");
+    bits.clear();
+    expect(bits.empty(), "no bits");
+    expect_refused(FB_INDEX, [&] { bits.pop_back(); });
+    expect_refused(FB_INDEX, [&] { bits.insert(1, true); });
+    expect_refused(FB_RANGE, [&] { bits.erase(0, 1); });
+    expect_refused(FB_SIZE, [&] { bits.reserve(FB_MAX_BITS + 1); });
+    OwnBits<uint64_t, Msb0> wide(70, true);
+    wide.erase(1, 69);
+    expect(wide.view().load_be() == 3, "bits of other elements");
+}
+
+template <class Element>
+void elements_of_a_type() {
+    Element memory[3] = {};
+    const Bits<Element, Msb0> bits(memory);
+    bits.part(3, 9).fill(true);
+    bits[4] = false;
+    const Bits<const Element, Msb0> seen(bits);
+    expect(seen.count_ones() == 5 && bits == ~~seen && seen.size() == 24 * sizeof(Element), "elements of a type");
+}
+
+void types() {
+    elements_of_a_type<char>();
+    elements_of_a_type<signed char>();
+    elements_of_a_type<std::byte>();
+    elements_of_a_type<short>();
+    elements_of_a_type<unsigned>();
+    elements_of_a_type<long>();
+    elements_of_a_type<unsigned long>();
+    elements_of_a_type<long long>();
+    elements_of_a_type<unsigned long long>();
+    elements_of_a_type<char32_t>();
+}
+
 } // namespace
 
 int main() {
@@ -191,4 +333,9 @@ int main() {
     operators();
     ones();
     containers();
+    steps();
+    two_windows();
+    overlapping();
+    own_bits();
+    types();
 }

@@ -144,6 +144,12 @@ def search(pair):
     assert (needle in pair.bits) == (those in pair.list)
     place = pair.list.find(those)
     assert pair.bits.find(needle) == (None if place < 0 else place)
+    places = pair.list.search(those) if those else list(range(len(pair.list) + 1))
+    assert (pair.bits.findall(needle), pair.bits.rfind(needle)) == (places, places[-1] if places else None)
+    assert not those or pair.bits.count(needle) == pair.list.to01().count(those.to01())
+    start, stop = random.randint(-9, len(pair.list)), random.randint(-9, len(pair.list) + 3)
+    place = pair.list[start:stop].find(those)
+    assert pair.bits.find(needle, start, stop) == (None if place < 0 else place + len(range(len(pair.list))[:start]))
     assert pair.bits.starts_with(needle) == (pair.list[: len(those)] == those)
     assert pair.bits.ends_with(needle) == (len(those) <= len(pair.list) and pair.list[len(pair.list) - len(those) :] == those)
 
@@ -170,6 +176,48 @@ def number(pair):
     assert (part.load_be if big else part.load_le)() == value
 
 
+def step(pair):
+    part, bit = part_of(pair), random.getrandbits(1)
+    part = slice(part.start, part.stop, random.choice([-70, -7, -2, -1, 2, 3, 8, 64, 65]))
+    assert pair.bits[part].tolist() == pair.list[part].tolist()
+    other = pair.like(len(pair.list[part]))
+    pair.bits[part], pair.list[part] = other.bits, other.list
+    if random.getrandbits(1):
+        pair.bits[part] = pair.list[part] = bit
+
+
+def grow(pair):
+    bits, those = pair.bits.copy(), pair.list.copy()
+    for _ in range(random.randint(1, 12)):
+        index, bit, other = random.randint(-len(those) - 2, len(those) + 2), random.getrandbits(1), pair.like(random.randint(0, 99))
+        change = random.randrange(8)
+        if change == 0:
+            bits.append(bit)
+            those.append(bit)
+        elif change == 1:
+            bits.insert(index, bit)
+            those.insert(index, bit)
+        elif change == 2:
+            bits += other.bits
+            those += other.list
+        elif change == 3 and -len(those) <= index < len(those):
+            assert bits.pop(index) == those.pop(index)
+        elif change == 4:
+            part = slice(index, random.randint(-9, len(those) + 3), random.choice([None, 1, 2, -1, -3, 9]))
+            del bits[part], those[part]
+        elif change == 5 and len(those) < 2000:
+            bits *= index % 4
+            those *= index % 4
+        elif change == 6:
+            bits, those = bits + other.bits, those + other.list
+        else:
+            bits.resize(abs(index), bit)
+            those = (those + bitarray(abs(index) * [bit]))[: len(those)] + bitarray(max(abs(index) - len(those), 0) * [bit])
+            those = those[: abs(index)]
+        assert bits.tolist() == those.tolist()
+    assert bytes(bits) == bits.to_bytes() and not bits.nbytes % (bits.width // 8)
+
+
 def write_down(pair):
     endian = "little" if pair.order is Lsb0 else "big"
     assert pair.bits.to_bytes() == bitarray(pair.list, endian).tobytes()
@@ -188,7 +236,7 @@ def make(pair):
 
 
 OPERATIONS = [set_bit, fill_part, write_part, move_part, combine, combine_parts, combine_copies, shift, shift_copies, rotate, turn,
-              flip, refill, ask, search, compare, number, write_down, make]
+              flip, refill, ask, search, compare, number, step, grow, write_down, make]
 
 
 def main():

@@ -12,6 +12,8 @@ void write(fehimbary::Bits<const uint8_t> bits) {
     bits.copy_from(bits);
 #elif defined(WRITE_OR)
     bits |= bits;
+#elif defined(WRITE_FILL_STEP)
+    bits.fill_step(2, true);
 #elif defined(WRITE_STORE)
     bits.store_le(1);
 #else

@@ -3,8 +3,10 @@
 import copy
 import gc
 import pickle
+import signal
 import sys
 import threading
+import time
 import tracemalloc
 import unittest
 import weakref
@@ -19,10 +21,18 @@ class Held(bytearray):
     """A memory that can refer to its own view."""
 
 
+class NamedFlags(Bits):
+    """Bits with something beside them."""
+
+    def __init__(self, memory, name):
+        super().__init__(memory, Msb0)
+        self.name = name
+
+
 def use(memory):
     """Most calls there are, on a memory of some bytes, with refused ones."""
     bits, other = Bits(memory), Bits(bytearray(memory), Msb0)
-    for call in (lambda: bits[9999], lambda: bits[::2], lambda: bits.__setitem__(0, 2), lambda: bits.rotate_left(-1),
+    for call in (lambda: bits[9999], lambda: bits[::0], lambda: bits.__setitem__(0, 2), lambda: bits.rotate_left(-1),
                  lambda: bits[:3].copy_from(other), lambda: bits.swap(other), lambda: memoryview(bits[1:]), lambda: Bits(bits[1:]),
                  lambda: Bits.from_string("012"), lambda: Bits.from_bools([0, 2]), lambda: Bits(array("b")), lambda: Bits("0"),
                  lambda: Bits(memory, 3), lambda: bits.run(Bits(b""), [Step(99, 0, 0)]), lambda: bits.load_le()):
@@ -97,6 +107,75 @@ class Memories(unittest.TestCase):
         self.assertTrue(memoryview(Bits(b"12")).readonly)
         self.assertRaises(TypeError, memoryview(Bits(b"12")).__setitem__, 0, 1)
 
+    def test_bits_that_grow_stay_where_they_are_while_something_else_runs(self):
+        bits = Bits.zeros(400)
+
+        class Changes:
+            def __init__(self, change):
+                self.change = change
+
+            def __index__(self):
+                self.change()
+                return 1
+
+            def __eq__(self, right):
+                self.change()
+                return right == 1
+
+            def __iter__(self):
+                self.change()
+                return iter([1])
+
+            def __len__(self):
+                return 1
+
+            __hash__ = None
+
+        change = [bits.clear, lambda: bits.extend(9000 * [0]), lambda: bits.resize(3)]
+        for number in range(60):
+            it = Changes(change[number % 3])
+            for call in (lambda: bits[it], lambda: bits[it:], lambda: bits[::it], lambda: bits.__setitem__(0, it), lambda: bits.__setitem__(it, 1),
+                         lambda: bits.__setitem__(slice(None, 2), it), lambda: bits.__setitem__(slice(it, None, it), it), lambda: bits.insert(it, it),
+                         lambda: bits.append(it), lambda: bits.extend(it), lambda: bits.pop(it), lambda: bits.__delitem__(it),
+                         lambda: bits.__delitem__(slice(it, None, 2)), lambda: bits.find(it), lambda: bits.find(1, it), lambda: bits.count(it),
+                         lambda: bits.resize(it, it), lambda: bits.fill(it), lambda: bits.replace(it, it), lambda: bits << it,
+                         lambda: bits.rotate_left(it), lambda: bits.__imul__(it), lambda: bits + it, lambda: bits.copy_within(it, it, it)):
+                try:
+                    call()
+                except (ValueError, IndexError):
+                    pass
+                if number % 5 == 0:
+                    bits.resize(100)
+        walk = iter(bits)
+        bits.clear()
+        self.assertEqual(list(walk), [])
+
+    def test_bits_of_bits_are_dropped_in_any_depth(self):
+        bits = Bits(bytearray(8))
+        for _ in range(10**6):
+            bits = Bits(bits)
+        del bits
+        bits = Bits.zeros(64)
+        self.assertRaises(TypeError, bits.__init__, bits)
+        empty = Bits.__new__(Bits)
+        self.assertRaises(TypeError, empty.__init__, empty)
+
+    def test_a_search_can_be_interrupted(self):
+        bits, needle = Bits.zeros(2**24), Bits.zeros(2**16)
+        needle[-1] = True
+        began = time.monotonic()
+        signal.signal(signal.SIGALRM, lambda *_: 1 / 0)
+        signal.setitimer(signal.ITIMER_REAL, 0.2)
+        self.assertRaises(ZeroDivisionError, bits.find, needle)
+        self.assertLess(time.monotonic() - began, 10)
+
+    def test_arrays_of_numpy(self):
+        bits = Bits(bytearray(b"\x01\x02"))
+        self.assertEqual(numpy.array(bits[:8]).tolist(), [1])
+        for part in (bits[:7], bits[1:]):
+            self.assertRaisesRegex(TypeError, "to_numpy", numpy.array, part)
+            self.assertRaisesRegex(TypeError, "to_numpy", numpy.asarray, part, bool)
+
     def test_a_view_of_a_view(self):
         inner = Bits.zeros(64)
         outer = Bits(inner[8:24], Msb0)
@@ -164,9 +243,10 @@ class Hostile(unittest.TestCase):
             self.assertRaises(TypeError, lambda: bits[wrong])
         for part in (slice(2**200), slice(-(2**200), None), slice(None, None, 1)):
             self.assertEqual(len(bits[part]), 64)
-        for step in (0, 2, -1, 2**200):
-            self.assertRaises(ValueError, lambda: bits[::step])
-            self.assertRaises(ValueError, lambda: bits.__setitem__(slice(None, None, step), 1))
+        self.assertRaises(ValueError, lambda: bits[::0])
+        self.assertRaises(ValueError, lambda: bits.__setitem__(slice(None, None, 0), 1))
+        for step, length in ((2, 32), (-1, 64), (2**200, 1), (-(2**200), 1), (2**63 - 1, 1), (-(2**63), 1)):
+            self.assertEqual(len(bits[::step]), length)
         self.assertRaises(TypeError, lambda: bits["a":])
         for by in (2**63, 2**64, 2**200):
             self.assertEqual((bits >> by, bits << by), (bits, bits))
@@ -175,7 +255,7 @@ class Hostile(unittest.TestCase):
     def test_what_is_no_view(self):
         bits = Bits(bytearray(8))
         for wrong in (None, 1, "1", b"1", object()):
-            for name in ("copy_from", "swap", "starts_with", "ends_with", "find"):
+            for name in ("copy_from", "swap", "starts_with", "ends_with", "count_and", "isdisjoint", "issubset"):
                 self.assertRaises(TypeError, getattr(bits, name), wrong)
             for name in ("__and__", "__ior__", "__lt__", "__eq__"):
                 self.assertIs(getattr(bits, name)(wrong), NotImplemented)
@@ -183,7 +263,8 @@ class Hostile(unittest.TestCase):
             self.assertRaises(TypeError, bits.run, Bits(b""), [wrong])
             self.assertRaises(TypeError, lambda: wrong << bits)
         self.assertRaises(TypeError, hash, bits)
-        with self.assertRaises(TypeError):
+        self.assertRaises(ValueError, bits.find, None)
+        with self.assertRaises(BufferError):
             del bits[0]
         with self.assertRaises(AttributeError):
             bits.name = 1
@@ -213,8 +294,7 @@ class Hostile(unittest.TestCase):
                 return 2
 
         bits = Bits(bytearray(8))
-        self.assertRaises((IndexError, ValueError), bits.run, Bits(b""), Steps(3 * [Step(Op.FILL, 0, 64)]))
-        self.assertEqual((len(bits.run(Bits(b""), Steps())), bits.run(Bits(b""), [])), (2, []))
+        self.assertEqual([len(bits.run(Bits(b""), Steps(number * [Step(Op.FILL, 0, 64)]))) for number in range(4)], [0, 1, 2, 3])
 
     def test_bits_without_a_memory(self):
         bits = Bits.__new__(Bits)
@@ -253,10 +333,12 @@ class Hostile(unittest.TestCase):
         flags = Flags(bytearray(2), "some")
         flags[3:9] = True
         self.assertEqual((flags.name, str(flags), flags.count_ones(), type(flags[1:]), type(~flags), type(flags.copy())),
-                         ("some", "0001111110000000", 6, Bits, Bits, Bits))
+                         ("some", "0001111110000000", 6, Bits, Flags, Flags))
         self.assertRaises(RefusedIndex, lambda: flags[16])
         flags &= Bits(b"\xff")
-        self.assertEqual((type(flags), flags == Bits(b"\xf8\x00")[:16], pickle.loads(pickle.dumps(flags)) == flags), (Flags, True, True))
+        self.assertEqual((type(flags), flags == Bits(b"\xf8\x00")[:16]), (Flags, True))
+        held = pickle.loads(pickle.dumps(NamedFlags(bytearray(b"\x05"), "some")))
+        self.assertEqual((type(held), held.name, str(held)), (NamedFlags, "some", "00000101"))
 
 
 class Threads(unittest.TestCase):

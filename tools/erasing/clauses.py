@@ -51,7 +51,21 @@ class ClauseParser:
             self.at += marks
             left = Term(operator, (left, self.parse(level + 1)))
 
+    def function(self):
+        """`λ a b. term`."""
+        self.at += 1
+        names = []
+        while is_word(self.here()):
+            names.append(Term(self.here().text))
+            self.at += 1
+        if not names or not is_mark(self.here(), "."):
+            raise Strange()
+        self.at += 1
+        return Term("λ", (*names, self.parse()))
+
     def application(self):
+        if is_word(self.here(), "λ"):
+            return self.function()
         terms = []
         while self.begins():
             terms.append(self.atom())
@@ -76,7 +90,7 @@ class ClauseParser:
             self.at += 1
         else:
             term = Term(node.text)
-        while is_mark(self.here(), ".") and self.at + 1 < len(self.nodes) and is_word(self.nodes[self.at + 1]):
+        while is_mark(self.here(), ".") and self.at + 1 < len(self.nodes) and getattr(self.nodes[self.at + 1], "kind", "") in ("word", "number"):
             term = Term(".", (term, Term(self.nodes[self.at + 1].text)))
             self.at += 2
         return plain(term)

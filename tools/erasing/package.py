@@ -30,6 +30,12 @@ def libraries():
     raise Refused("crates.txt has no line `bitvec:`")
 
 
+def crates_of(pattern):
+    """The crates of these names."""
+    names = [re.split(r"[\s:]", line)[0] for line in (TOP / "crates.txt").read_text().splitlines() if not line.startswith("#")]
+    return [name for name in names if re.fullmatch(pattern, name)]
+
+
 def module_of(crate):
     name = crate.removeprefix("bitvec_")
     return KEYWORDS.get(name, name)

@@ -51,6 +51,7 @@ CONDITIONS = [
     ("FitsMaxBits ?b ?list", "crate::conditions::has_bits({b}, #list, 0, 0)", "the elements have at most MAX_BITS bits"),
     ("FitsWithin ?from ?to ?dest ?len", "crate::conditions::fits_within({from}, {to}, {dest}, {len})", "{from} <= {to} <= {len}, and as many bits fit from {dest} on"),
     ("HasRoom ?b ?count ?from ?to ?dest", "crate::conditions::has_bits({b}, {count}, {from}, {to}) && crate::conditions::fits_within({from}, {to}, {dest}, {b} * {count})", "{from} <= {to} <= the bits of the elements, and as many fit from {dest} on"),
+    ("All (λ field. field.0 ≤ ?most) ?row", "{row}.iter().all(|field| field.0 <= {most})", "each width of {row} is at most {most}"),
     ("LieApart ?from ?to ?dest", "{to} <= {dest} || {to} - {from} <= {from} && {dest} <= {from} - ({to} - {from})", "the ranges lie apart"),
     ("IsRestOf ?rest ?len", "{rest}.front <= {rest}.back && {rest}.back <= {len}", "{rest}.front <= {rest}.back <= {len}"),
     ("CoversElements ?b ?view", "crate::conditions::covers(self.window(), self.elements.len(), T::BITS as usize)", "the view has all bits of its elements"),

@@ -7,13 +7,14 @@ import sys
 
 import erase
 from erase import Eraser
-from package import HAND, TOP, Package, Refused, sources
+from package import HAND, TOP, Package, Refused, crates_of, sources
 from testing import Tester
 from tokens import Group, is_group, is_mark, is_word, solid, text, word
 
-# Crates of tests, which name the library's crates and so stand among them, and crates of callers, which name `bitvec`.
-TESTS = ("bitvec_test_support", "bitvec_engine_tests", "bitvec_view_tests", "bitvec_iter_tests", "bitvec_edit_tests", "bitvec_top_tests")
-CALLERS = ("bitvec_examples", "bitvec_array_examples", "bitvec_code_examples")
+# Crates of tests, which name the library's crates and so stand among them, and crates of callers, which name `bitvec`. What
+# `bitrecord` is tested by isn't written, since the package hasn't that.
+TESTS = crates_of(r"bitvec_test_support|bitvec_\w+_tests")
+CALLERS = crates_of(r"bitvec_(?:\w+_)?examples")
 # Files that aren't written, and why.
 LEFT_OUT = {
     ("bitvec_test_support", "streams"): "readers and writers of the program `bitdo`, which the package hasn't",
@@ -22,11 +23,6 @@ LEFT_OUT = {
     ("bitvec_top_tests", "program_streams"): "of `bitdo`",
     ("bitvec_top_tests", "checked_operations"): "of the functions for C, which the package hasn't",
     ("bitvec_top_tests", "checked_runs"): "of the functions for C",
-    ("bitvec_top_tests", "record_coding"): "of `bitrecord`, which the package hasn't",
-    ("bitvec_top_tests", "record_headers"): "of `bitrecord`",
-    ("bitvec_top_tests", "record_laws"): "of `bitrecord`",
-    ("bitvec_top_tests", "record_memory"): "of `bitrecord`",
-    ("bitvec_top_tests", "records"): "of `bitrecord`",
 }
 # Files that stand in bindings/rust/tests in place of the erased ones.
 BY_HAND = {("bitvec_test_support", "refusing"): "refusing.rs"}

@@ -33,6 +33,7 @@ class Entry:
     targets: set = dataclasses.field(default_factory=set)
     laws: list = dataclasses.field(default_factory=list)
     worked: list = dataclasses.field(default_factory=list)
+    checked: list = dataclasses.field(default_factory=list)
 
     def __hash__(self):
         return id(self)
@@ -62,6 +63,9 @@ class Sources:
             for path in sorted((folder / "specs").rglob("*.antt")):
                 file = path.relative_to(folder / "specs").with_suffix("").as_posix().replace("/", ".")
                 self.specs[crate, file] = antt.read(crate, path, file)
+        for crate in self.lines:
+            for path in (TOP / "crates" / crate / "specs").glob("*Examples.antt"):
+                self.specs[crate, path.stem] = antt.read(crate, path, path.stem)
         self.kit = Kit()
 
     def find_word(self, path, name, seen=()):
@@ -416,7 +420,7 @@ class Model:
                 for name in {*NAME.findall(" ".join(word.statement))}:
                     target = self.specs_target(*word.imports[name]) if name in word.imports else None
                     if target in reached:
-                        target.worked.append(f"`{' '.join(word.statement).partition(' : ')[2]}`")
+                        target.checked.append(" ".join(word.statement).partition(" : ")[2])
         # the sets that callers name come first
         self.entries += sorted((it for it in self.words.values() if it in reached), key=lambda it: (it.kind == "set", it.scope.crate != BITVEC and it.kind == "set"))
         self.entries += sorted((it for it in self.std.values() if it in reached), key=lambda it: it.name.lower())

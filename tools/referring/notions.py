@@ -1,6 +1,8 @@
 """The pages of the reference: what each is of, and which files of which crates it has."""
 import dataclasses
 
+from library import Refused
+
 
 @dataclasses.dataclass
 class Notion:
@@ -19,7 +21,7 @@ NOTIONS = [
     Notion("memory", "Memories and windows", "The bits of a slice of elements as one list, windows of it, and what a write leaves.", "bitvec_base"),
     Notion("lists", "Words and laws of lists", "What contracts say of lists of bits: counts, places, rotations, shifts, copies, writes of a part.",
            "bitvec_base/{Lists,ListsLaws,Counts,CountLaws,CountedLaws,CompareLaws,CopyLaws,FillLaws,FilledLaws,FoundLaws,LeadingLaws,LengthLaws,NeedleLaws"
-           ",PlacesLaws,ReversalLaws,RotationLaws,ScanLaws,ShiftLaws,SliceLaws,WriteLaws} bitvec/{Operators,NthLaws,MatchLaws}"
+           ",PlacesLaws,ReversalLaws,RotationLaws,ScanLaws,ShiftLaws,SliceLaws,WriteLaws} bitvec bitvec/{Operators,NthLaws,MatchLaws}"
            " bitvec_within/{Combined,CombinedLaws,Swaps,SwapsLaws,Ranges,Candidates} bitvec_words/{Operator,CombinedLaws}"),
     Notion("views", "Views", "A view is a window of borrowed elements in an order: how it is made, cut, compared and shown.",
            "bitvec_slice bitvec_domain/{reference,reference_mut,reference_equality,reference_texts,References,Listing,ListingLaws,Feeding,FeedingLaws}"
@@ -42,7 +44,7 @@ NOTIONS = [
     Notion("numbers", "Numbers", "Integers in the bits of a view, from either end.", "bitvec_segments bitvec_field bitvec/{NumberSidesLaws,SeamlessLaws}"),
     Notion("arrays", "Arrays in place", "Functions over a slice of elements and a range of its bits, which tell the array afterwards.",
            "bitvec_in_place bitvec/{Arrays,ChangesLaws,FoundLaws}"),
-    Notion("cursors", "Cursors", "Numbers and bits read and written one after the other.", "bitvec_in_place/{reader,writer,cursor_error,Cursors,Rooms}"),
+    Notion("cursors", "Cursors", "Numbers and bits read and written one after the other.", "bitvec_in_place/{reader,writer,cursor_error,Cursors,Rooms} bitvec/ListNumbersLaws"),
     Notion("sequences", "Sequences", "Owned bits: sequences that grow, and arrays of bits.", "bitvec_owned"),
     Notion("runs", "Runs", "Lists of commands, run through a window of a memory or through two halves of a view.", "bitvec_run bitvec_run_halves"),
     Notion("records", "Records", "Records packed into bits.", "bitrecord"),
@@ -77,4 +79,4 @@ def page_of(crate, file):
     for place in (f"{crate}/{file}", f"{crate}/{file.split('/')[0]}", crate):
         if place in PLACES:
             return PLACES[place]
-    return None
+    raise Refused(f"tools/referring/notions.py gives no page to the crate {crate}")

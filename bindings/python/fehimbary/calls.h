@@ -33,8 +33,19 @@ static inline bool fb_overlap(fb_seen w, fb_seen r) {
     return left < right + fb_size(r) && right < left + fb_size(w);
 }
 
+/* Whether two windows of elements alike have a bit in common. */
+static inline bool fb_meet(fb_seen w, fb_seen r) {
+    const size_t left = 8 * (size_t)w->elements + w->start, right = 8 * (size_t)r->elements + r->start;
+    return left < right + r->len && right < left + w->len;
+}
+
 /* Whether two windows number bits alike. */
 static inline bool fb_alike(fb_seen w, fb_seen r) { return w->order == r->order && w->shift == r->shift; }
+
+/* The bit at an index of bytes under an order, and a 1 that is put there if it is to be one. */
+static inline unsigned fb_at(fb_order order, size_t i) { return order == FB_LSB0 ? i % 8 : 7 - i % 8; }
+static inline bool fb_bit(const uint8_t *bytes, fb_order order, size_t i) { return bytes[i / 8] >> fb_at(order, i) & 1; }
+static inline void fb_put(uint8_t *bytes, fb_order order, size_t i, bool bit) { bytes[i / 8] |= (uint8_t)(bit << fb_at(order, i)); }
 
 #define LEFT w->order, w->elements, w->count, w->start, w->len
 #define RIGHT r->elements, r->count, r->start, r->len
@@ -44,6 +55,7 @@ static inline bool fb_alike(fb_seen w, fb_seen r) { return w->order == r->order 
 #define MORE(stem, PARAMETERS, ...) static inline fb_status fb_##stem PARAMETERS { return CALL(stem, __VA_ARGS__); }
 #define PLAIN(stem) MORE(stem, (fb_seen w), LEFT)
 #define WITH(stem, Type) MORE(stem, (fb_seen w, Type it), LEFT, it)
+#define WITH_TWO(stem, Type, Other) MORE(stem, (fb_seen w, Type it, Other other), LEFT, it, other)
 #define BESIDE(stem) MORE(stem, (fb_seen w, fb_seen r), LEFT, RIGHT)
 #define BESIDE_WITH(stem, Type) MORE(stem, (fb_seen w, fb_seen r, Type it), LEFT, RIGHT, it)
 
@@ -54,6 +66,9 @@ WITH(count_ones, size_t *) WITH(count_zeros, size_t *) WITH(any, bool *) WITH(al
 WITH(first_one, size_t *) WITH(first_zero, size_t *) WITH(last_one, size_t *) WITH(last_zero, size_t *)
 BESIDE(copy) BESIDE(and) BESIDE(or) BESIDE(xor) BESIDE(swap) BESIDE_WITH(compare, int32_t *)
 BESIDE_WITH(equal, bool *) BESIDE_WITH(starts_with, bool *) BESIDE_WITH(ends_with, bool *) BESIDE_WITH(contains, bool *)
+BESIDE_WITH(count_and, size_t *) BESIDE_WITH(count_xor, size_t *) BESIDE_WITH(disjoint, bool *) BESIDE_WITH(subset, bool *)
+WITH_TWO(fill_step, size_t, bool) WITH_TWO(count_step, size_t, size_t *)
+MORE(copy_step, (fb_seen w, fb_seen r, size_t step, size_t right_step), LEFT, RIGHT, step, right_step)
 MORE(get, (fb_seen w, size_t index, bool *bit), LEFT, index, bit)
 MORE(set, (fb_seen w, size_t index, bool bit), LEFT, index, bit)
 MORE(replace, (fb_seen w, size_t index, bool bit, bool *old), LEFT, index, bit, old)

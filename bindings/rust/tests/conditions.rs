@@ -329,6 +329,7 @@ fn ranges_in_place(seen: &mut Seen) {
         swap_with(|bytes| in_place::swap_with::<u8, Msb0, u8, Msb0>(bytes, 0..9, &mut view(&mut BYTES.clone())));
         take(|bytes| in_place::BitReader::<u8, Msb0>::new(bytes).take::<u8>(0));
         take(|bytes| in_place::BitReader::<u8, Msb0>::new(bytes).take::<u8>(9));
+        put_row(|bytes| in_place::BitWriter::<u8, Msb0>::new(bytes).put_row(&[(3, 1), (65, 1)]));
         put(|bytes| in_place::BitWriter::<u8, Msb0>::new(bytes).put::<u8>(1, 9));
     );
     #[allow(clippy::reversed_empty_ranges)]

@@ -7,11 +7,11 @@ ghost use Rattle.bitvec.specs.Access.{CostsAtMost};
 ghost use Rattle.bitvec.specs.Groups.{IsOperator};
 ghost use Rattle.bitvec.specs.WordSteps.{EditsInSteps, ReadsInSteps, WritesInSteps, word_span};
 
-use bitvec::cells::{Cells, CellsRead, Shared};
+use bitvec::cells::{Cells, CellsRead, Exclusive, Shared};
 use bitvec::index::Window;
 use bitvec::prelude::*;
 use bitvec::run::{Op, Reply, RunError, Step, run};
-use std::alloc::Allocator;
+use std::alloc::{Allocator, Global};
 use std::ops::Range;
 
 /// Compares the bits `range` of a window with right ones. Bits that aren't as many take no load.
@@ -158,4 +158,42 @@ pub fn combine_msb0<A: Allocator, C: Cells, D: CellsRead<Elem = C::Elem>>(
     let (from, to) = (range.start, range.end);
     let replies = run::<Msb0, A, C, D>(alloc, cells, window, right, &[Step { from, to, op }])?;
     Ok(replies)
+}
+
+/// Runs each command once under `Lsb0`, on the first 12 bits of two bytes, and gives what the comparison replied.
+fn run_each_lsb0(alloc: Global, bytes: &mut [u8; 2], right: &mut [u8; 1]) -> bool {
+    let mut cells = Exclusive::new(bytes);
+    let mut others = Exclusive::new(right);
+    let window = Window { start: 0, len: 12 };
+    let source = Window { start: 4, len: 4 };
+    let op = Op::Or(Window { start: 0, len: 4 });
+    let copied = copy_lsb0(alloc, &mut cells, window, 0..4, &mut others, source).is_ok();
+    let moved = copy_within_lsb0(alloc, &mut cells, window, 0..4, 8).is_ok();
+    let combined = combine_lsb0(alloc, &mut cells, window, 4..8, &mut others, op).is_ok();
+    let same = compare_lsb0(alloc, &mut cells, window, 0..4, &mut others, source);
+    copied && moved && combined && matches!(same, Ok(replies) if replies.first() == Some(&Reply::Bit(true)))
+}
+
+/// [`run_each_lsb0`] under `Msb0`.
+fn run_each_msb0(alloc: Global, bytes: &mut [u8; 2], right: &mut [u8; 1]) -> bool {
+    let mut cells = Exclusive::new(bytes);
+    let mut others = Exclusive::new(right);
+    let window = Window { start: 0, len: 12 };
+    let source = Window { start: 4, len: 4 };
+    let op = Op::Or(Window { start: 0, len: 4 });
+    let copied = copy_msb0(alloc, &mut cells, window, 0..4, &mut others, source).is_ok();
+    let moved = copy_within_msb0(alloc, &mut cells, window, 0..4, 8).is_ok();
+    let combined = combine_msb0(alloc, &mut cells, window, 4..8, &mut others, op).is_ok();
+    let same = compare_msb0(alloc, &mut cells, window, 0..4, &mut others, source);
+    copied && moved && combined && matches!(same, Ok(replies) if replies.first() == Some(&Reply::Bit(true)))
+}
+
+#[test]
+fn commands_run_under_both_orders(rt: HostRuntime) {
+    let (mut bytes, mut right) = ([0, 0], [0xA3]);
+    assert!(rt; run_each_lsb0(rt.alloc(), &mut bytes, &mut right));
+    assert!(rt; bytes == [0x3A, 0x0A]);
+    let mut bytes = [0, 0];
+    assert!(rt; run_each_msb0(rt.alloc(), &mut bytes, &mut right));
+    assert!(rt; bytes == [0x3A, 0x30]);
 }

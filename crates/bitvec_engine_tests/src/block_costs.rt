@@ -26,6 +26,24 @@ pub fn copy_in_steps<O: ByWords, C: Cells, D: CellsRead<Elem = C::Elem>>(
     O::block_copy::<C, D>(left, to, right, from);
 }
 
+/// Copies 64 bits of a pair of elements to another, and gives the loads and stores there, and the loads of the first.
+fn copy(left: &mut [u64; 2], right: &mut [u64; 2]) -> [u64; 3] {
+    let mut cells = Counted::new(Exclusive::new(left));
+    let mut others = Counted::new(Exclusive::new(right));
+    let window = Window { start: 3, len: 64 };
+    let other = Window { start: 5, len: 64 };
+    copy_in_steps::<Lsb0, _, _>(&mut cells, window, &mut others, other);
+    [cells.loads(), cells.stores(), others.loads()]
+}
+
+#[test]
+fn a_copy_goes_by_words(rt: HostRuntime) {
+    let mut left = [0, u64::MAX];
+    let [loads, stores, other_loads] = copy(&mut left, &mut [u64::MAX, 0x16]);
+    assert!(rt; loads <= 4 && stores <= 2 && other_loads <= 2);
+    assert!(rt; left == [0xBFFF_FFFF_FFFF_FFF8, 0xFFFF_FFFF_FFFF_FFFD]);
+}
+
 /// How many loads and stores are counted of one each.
 fn counted(bytes: &mut [u8; 3]) -> (u64, u64) {
     let mut accessor = Counted::new(Exclusive::new(bytes));

@@ -46,12 +46,6 @@ impl<'a, T: BitStore, O: BitOrder> BitReader<'a, T, O> {
     }
 
     /// A reader at the first bit of a view. It reads no bit outside the view, so the view's end is a limit.
-    ///
-    /// ```
-    /// let part = BitSlice::<u8, Msb0>::from_slice(&[0xE0, 0x0B, 0xFE]).into_part(3..15);
-    /// let mut reader = BitReader::of_view(part);
-    /// assert!(rt; reader.take::<u8>(8) == Ok(0) && reader.take_bit() == Ok(false));
-    /// ```
     pub fn of_view(view: BitSlice<'a, T, O>) -> Self
         ensures bits { (reading result).bits ≡ (seen view.entry).bits }
         ensures position { (reading result).position ≡ 0 }

@@ -54,11 +54,6 @@ impl<'a, T: BitStore, O: BitOrder> BitWriter<'a, T, O> {
 
     /// A writer behind the first `position` bits, which stay. Conditions: the elements have at most `MAX_BITS` bits, and as
     /// many as these.
-    ///
-    /// ```
-    /// let mut writer = BitWriter::<u8, Msb0>::starting_at(bytes, 3);
-    /// writer.put(number, 8)
-    /// ```
     pub fn starting_at(elements: &'a mut [T], position: usize) -> Self
         requires fits { T.BITS * length elements.old ≤ max_bits }
         requires inside { position ≤ T.BITS * length elements.old }
@@ -189,10 +184,6 @@ impl<'a, T: BitStore, O: FieldOrder> BitWriter<'a, T, O> {
     /// Writes numbers one behind the other, each told with its width as `(width, number)`; every other bit stays. Of a number
     /// that has more bits the lowest are written. If there are too few bits for all, it is refused with `Full`, and nothing
     /// is written. Condition: each width is at most 64.
-    ///
-    /// ```
-    /// assert!(rt; writer.put_row(&[(3, 0), (5, 0)]) == Ok(()) && writer.put_bit(false) == Ok(()));
-    /// ```
     pub fn put_row(&mut self, row: &[(u32, u64)]) -> Result<(), CursorError>
         requires { All (λ field. field.0 ≤ 64) row.now }
         ensures accepted { IsOk result ↔ ((writing self.old).position + row_len row.now ≤ length (writing self.old).bits) }

@@ -1,0 +1,4 @@
+pub mod CuttingExamples
+pub mod ListsExamples
+pub mod MemoryExamples
+pub mod SegmentsExamples
