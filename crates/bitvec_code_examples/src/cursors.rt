@@ -105,7 +105,8 @@ pub fn record_trip(
     requires fits { 8 * length bytes.old ≤ max_bits }
     requires few { width ≤ 16 }
     requires valid { number < 2 ^ width }
-    ensures { IfOk result (λ taken. taken ≡ (flag, number)) }
+    ensures flag { IfOk result (λ taken. taken.0 ≡ flag) }
+    ensures number { IfOk result (λ taken. taken.1 ≡ number) }
 {
     put_record(bytes, flag, number, width, BitSlice::from_slice(&[0xA0]))?;
     take_record(bytes, width)
