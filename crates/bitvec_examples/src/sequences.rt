@@ -29,7 +29,7 @@ pub fn put_first(bits: &mut Words, bit: bool) -> Result<(), AllocError>
 
 /// Takes the first bits, and then the one at an index, to whose place the last one comes. Condition: the index is below that of
 /// the last one.
-#[tactic(auto, using(bitvec::specs::Laws::reindexed))]
+#[tactic(auto, using(bitvec::specs::Laws::reindexed, bitvec::specs::Laws::grown))]
 pub fn take_two_ways(bits: &mut Words, count: usize, index: usize) -> Result<bool, AllocError>
     requires { count + index + 1 < (owned bits.old).window.len }
     ensures taken { IfOk result (λ taken. taken ≡ slice_index_or (owned bits.old).bits (index + count) false) }
