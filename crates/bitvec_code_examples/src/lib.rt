@@ -9,8 +9,6 @@ mod found;
 #[cfg(test)]
 mod fronts;
 #[cfg(test)]
-mod headers;
-#[cfg(test)]
 mod number_sides;
 #[cfg(test)]
 mod numbers_in_views;
