@@ -12,13 +12,14 @@
 # What is missing of the compilers, valgrind, Python, its packages and pkg-config is named; with --install it is installed by
 # apt-get, as root.
 set -euo pipefail
+from=$PWD
 cd "$(dirname "$0")"
 install=
 if [ "${1:-}" = --install ]; then
   install=1
   shift
 fi
-library=${1:+LIBRARY=$(realpath "$@" | tr '\n' ' ')}
+library=${1:+LIBRARY=$(cd "$from" && realpath "$@" | tr '\n' ' ')}
 room=$(mktemp -d)
 trap 'rm -rf "$room"' EXIT
 
