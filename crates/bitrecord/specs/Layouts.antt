@@ -75,6 +75,7 @@ pub record MemoryFault (bits : ℕ) (fields : List Window) : Type 0 where
   pub layout : IsLayout bits fields
   pub some : 0 < length fields
 
+-- `IsFault bits fields fault`: the first without a width, else outside, else overlapping.
 abbrev pub IsFault : ℕ → List Window → LayoutError → Type 0
 IsFault bits fields (fault.Width i) = IsFirstWithout HasWidth fields i
 IsFault bits fields (fault.Outside i) = OutsideFault bits fields i

@@ -20,6 +20,7 @@ number_of end.Big high b s list = loaded_be high b s list
 abbrev pub field_number : Endian → Bool → ℕ → ℕ → List Bool → Window → ℕ
 field_number endian high b s list field = number_of endian high b (s + field.start) (window_of list field)
 
+-- `record_in endian high b s list fields` (`Records`): the number of each field.
 abbrev pub record_in : Endian → Bool → ℕ → ℕ → List Bool → List Window → List ℕ
 record_in endian high b s list fields = map (field_number endian high b s list) fields
 
@@ -46,6 +47,8 @@ pub record IsFirstTooLarge (fields : List Window) (values : List ℕ) (i : ℕ) 
   pub large : 2 ^ (field_at fields i).len ≤ slice_index values i
   pub before : (k : ℕ) → k < i → Fits (field_at fields k) (slice_index values k)
 
+-- `AreEncodable fields values`, `IsRefusal fields values why`: one value a field, each small enough; or the count, or the first that is
+-- too large.
 abbrev pub IsRefusal : List Window → List ℕ → EncodeError → Type 0
 IsRefusal fields values refusal.Count = (length values ≡ length fields) → ⊥
 IsRefusal fields values (refusal.Range i) = IsFirstTooLarge fields values i

@@ -50,6 +50,7 @@ module _ {T O A : Type 0} {t : Store T} {o : Order O} (some : 0 < t.BITS) where
   long : (v : BitVec T O A t o) → length (owned v).bits ≡ (owned v).window.len
   long v = length_bits t.BITS o.at t.value v.elements.items v.head v.len (inside v)
 
+  -- A `BitVec`, and a `BitArray`, has been written with its own bits.
   pub owned-none : (v : BitVec T O A t o) → WritesOwned v v (owned v).bits
   owned-none v = record {
     bits = refl;
@@ -61,6 +62,7 @@ module _ {T O A : Type 0} {t : Store T} {o : Order O} (some : 0 < t.BITS) where
     holds = λ list from held. subst (λ (l : List Bool). Holds t.BITS l from (owned v)) (sym held.bits) held;
   }
 
+  -- A write and then another are the second one of what was there first.
   pub owned-then : (first second last : BitVec T O A t o) (x y : List Bool) → WritesOwned first second x → WritesOwned second last y → WritesOwned first last y
   owned-then first second last x y one two =
       let m = (owned first).memory in

@@ -11,6 +11,7 @@ use Rattle.bitvec_base.specs.ListsLaws.{is_prefix-fits, is_suffix-fits, same_bit
 
 -- ---- at the start
 
+-- It and the rest joined are the list.
 pub prefix-taken : (part list : List Bool) → is_prefix part list ≡ true → take (length part) list ≡ part
 prefix-taken part list begins = (same_bits-decides _ _).0 (sym (is_prefix-fits part list (is_prefix-no_longer part list begins)) ∙ begins)
 
@@ -18,6 +19,7 @@ prefix-taken part list begins = (same_bits-decides _ _).0 (sym (is_prefix-fits p
 pub prefix-bit : (part list : List Bool) (k : ℕ) (d : Bool) → is_prefix part list ≡ true → k < length part → slice_index_or list k d ≡ slice_index_or part k d
 prefix-bit part list k d begins inside = sym (get_or-take (length part) list k d inside) ∙ ap (λ (l : List Bool). slice_index_or l k d) (prefix-taken part list begins)
 
+-- It and the rest joined are the list.
 pub prefix-joined : (part list : List Bool) → is_prefix part list ≡ true → part ++ drop (length part) list ≡ list
 prefix-joined part list begins = ap (λ (l : List Bool). l ++ drop (length part) list) (sym (prefix-taken part list begins)) ∙ take-append-drop (length part) list
 
@@ -35,12 +37,15 @@ prefix-found part list fits each =
 
 -- ---- at the end
 
+-- It and the rest joined are the list.
 pub suffix-dropped : (part list : List Bool) → is_suffix part list ≡ true → drop (length list - length part) list ≡ part
 suffix-dropped part list ends = (same_bits-decides _ _).0 (sym (is_suffix-fits part list (is_suffix-no_longer part list ends)) ∙ ends)
 
+-- Each bit of it is the list's at its index, or as far before the end.
 pub suffix-bit : (part list : List Bool) (k : ℕ) (d : Bool) → is_suffix part list ≡ true → k < length part → slice_index_or list (length list - length part + k) d ≡ slice_index_or part k d
 suffix-bit part list k d ends inside = sym (get_or-drop (length list - length part) list k d) ∙ ap (λ (l : List Bool). slice_index_or l k d) (suffix-dropped part list ends)
 
+-- It and the rest joined are the list.
 pub suffix-joined : (part list : List Bool) → is_suffix part list ≡ true → take (length list - length part) list ++ part ≡ list
 suffix-joined part list ends =
     ap (λ (l : List Bool). take (length list - length part) list ++ l) (sym (suffix-dropped part list ends)) ∙ take-append-drop (length list - length part) list

@@ -13,6 +13,7 @@ use Rattle.bitvec_segments.specs.Segments.{loaded, segment_bits, segment_number,
 pub loaded-seamless : (high : Bool) (b s : ℕ) (list : List Bool) → loaded high high b s list ≡ segment_number high list
 loaded-seamless high b s list = loaded-plain high high b s list refl
 
+-- A store leaves the bits of one segment, in a list and in a range.
 pub stored-seamless : (high : Bool) (b s v : ℕ) (list : List Bool) → 0 < b → stored high high b s v list ≡ segment_bits high (length list) v
 stored-seamless high b s v list some = stored-joined high high b s v list some (inl refl)
 
@@ -21,6 +22,7 @@ pub number-seamless : (high : Bool) (b : ℕ) (list : List Bool) (from to : ℕ)
 unfolding number_in
 number-seamless high b list from to = loaded-seamless high b from (slice_range list from to)
 
+-- A store leaves the bits of one segment, in a list and in a range.
 pub numbered-seamless : (high : Bool) (b : ℕ) (list : List Bool) (from to v : ℕ) → 0 < b → to ≤ length list → numbered high high b list from to v ≡ write_at list from (segment_bits high (to - from) v)
 unfolding numbered
 numbered-seamless high b list from to v some inside =

@@ -8,25 +8,30 @@ use Rattle.bitvec_base.specs.ListsLaws.{length-combined}
 use Rattle.bitvec_base.specs.Window.{write_at}
 use Rattle.bitvec_base.specs.WriteLaws.{length-slice_range, length-write_at}
 
+-- A list whose values stand at other places is as long; `list_lengths` has all such laws.
 pub length-rotated_left : {X : Type 0} (k : ℕ) (list : List X) → length (rotated_left k list) ≡ length list
 unfolding rotated_left
 length-rotated_left k list = omega (arith, length-append (drop k list) (take k list), length-take k list, length-drop k list)
 
+-- A list whose values stand at other places is as long; `list_lengths` has all such laws.
 pub length-rotated_right : {X : Type 0} (k : ℕ) (list : List X) → length (rotated_right k list) ≡ length list
 unfolding rotated_right rotated_left
 length-rotated_right k list = length-rotated_left (length list - k) list
 
+-- A list whose values stand at other places is as long; `list_lengths` has all such laws.
 pub length-shifted_start : (k : ℕ) (list : List Bool) → k ≤ length list → length (shifted_start k list) ≡ length list
 unfolding shifted_start
 length-shifted_start k list h =
     omega (arith, length-append (drop k list) (replicate k false), length-drop k list, length-replicate k false)
 
+-- A list whose values stand at other places is as long; `list_lengths` has all such laws.
 pub length-shifted_end : (k : ℕ) (list : List Bool) → k ≤ length list → length (shifted_end k list) ≡ length list
 unfolding shifted_end
 length-shifted_end k list h =
     let kept = length list - k in
     omega (arith, length-append (replicate k false) (take kept list), length-take kept list, length-replicate k false)
 
+-- A list whose values stand at other places is as long; `list_lengths` has all such laws.
 pub length-copied_within : {X : Type 0} (from to dest : ℕ) (list : List X) → to ≤ length list → dest + (to - from) ≤ length list → length (copied_within from to dest list) ≡ length list
 unfolding copied_within
 length-copied_within from to dest list source fits =

@@ -17,6 +17,7 @@ differs a b = not (beq a b)
 unfoldable pub is_prefix : List Bool → List Bool → Bool
 is_prefix part list = nat_le (length part) (length list) && same_bits (take (length part) list) part
 
+-- Whether the part begins, ends the list.
 unfoldable pub is_suffix : List Bool → List Bool → Bool
 is_suffix part list = nat_le (length part) (length list) && same_bits (drop (length list - length part) list) part
 
@@ -24,6 +25,7 @@ is_suffix part list = nat_le (length part) (length list) && same_bits (drop (len
 unfoldable pub stands_at : List Bool → List Bool → ℕ → Bool
 stands_at part list k = nat_le (k + length part) (length list) && same_bits (slice_range list k (k + length part)) part
 
+-- Whether the part stands from `k` on, from some place on.
 unfoldable pub stands_in : List Bool → List Bool → Bool
 stands_in part list = list_any (stands_at part list) (range_with_len 0 (length list + 1))
 
@@ -35,9 +37,11 @@ combined f list other = map (λ i. f (slice_index_or list i false) (slice_index_
 unfoldable pub places_of : Bool → List Bool → List ℕ
 places_of wanted list = filter (λ i. beq (slice_index_or list i false) wanted) (range_with_len 0 (length list))
 
+-- The places of a bit; the least and the greatest.
 abbrev pub first_place : Bool → List Bool → Option ℕ
 first_place wanted list = slice_get (places_of wanted list) 0
 
+-- The places of a bit; the least and the greatest.
 abbrev pub last_place : Bool → List Bool → Option ℕ
 last_place wanted list = last_or None (places_of wanted list)
 

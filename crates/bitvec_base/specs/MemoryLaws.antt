@@ -16,22 +16,27 @@ use Rattle.bitvec_base.specs.Window.{IsWithin, write_at}
 use Rattle.bitvec_base.specs.declared.window.Window.{Window}
 use Rattle.bitvec_base.specs.WriteLaws.{length-slice_range, get-slice_range, length-write_at, get-write_at_below, get-write_at_inside, get-write_at_above}
 
+-- Elements have `BITS` bits each.
 pub length-memory_bits : (b : ℕ) (at : ℕ → ℕ → ℕ) (xs : List ℕ) → length (memory_bits b at xs) ≡ b * length xs
 unfolding memory_bits
 length-memory_bits b at xs = length-map-range_with_len (place_bit b at xs) 0 (b * length xs)
 
+-- The bit at each place.
 pub get-memory_bits : (b : ℕ) (at : ℕ → ℕ → ℕ) (xs : List ℕ) (j : ℕ) (d : Bool) → j < b * length xs → slice_index_or (memory_bits b at xs) j d ≡ place_bit b at xs j
 unfolding memory_bits
 get-memory_bits b at xs j d h = get_or-map-range_with_len (place_bit b at xs) 0 (b * length xs) j j d h (omega arith)
 
+-- One element has `BITS` bits.
 pub length-element_bits : (b : ℕ) (at : ℕ → ℕ → ℕ) (v : ℕ) → length (element_bits b at v) ≡ b
 unfolding element_bits
 length-element_bits b at v = length-map-range_with_len (λ i. bit_at v (at b i) == 1) 0 b
 
+-- The bit at each index.
 pub get-element_bits : (b : ℕ) (at : ℕ → ℕ → ℕ) (v i : ℕ) (d : Bool) → i < b → slice_index_or (element_bits b at v) i d ≡ (bit_at v (at b i) == 1)
 unfolding element_bits
 get-element_bits b at v i d h = get_or-map-range_with_len (λ i. bit_at v (at b i) == 1) 0 b i i d h (omega arith)
 
+-- The bit at an index of an element.
 pub place_bit-element : (b : ℕ) (at : ℕ → ℕ → ℕ) (xs : List ℕ) (e i : ℕ) → i < b → place_bit b at xs (e * b + i) ≡ (bit_at (slice_index xs e) (at b i) == 1)
 unfolding place_bit
 place_bit-element b at xs e i h = rw (div-mul-add e b i h, mod-mul-add e b i h) refl
@@ -44,6 +49,7 @@ place_parts b k some = div-add-mod' k b
 pub element_fits : (b e n : ℕ) → e < n → e * b + b ≤ b * n
 element_fits b e n h = let fits = row_fits e b n b h (omega arith) in omega arith
 
+-- An element's bits, and those of some elements, are a range of the memory's.
 pub element-range : (b : ℕ) (at : ℕ → ℕ → ℕ) (xs : List ℕ) (e : ℕ) → e < length xs → slice_range (memory_bits b at xs) (e * b) (e * b + b) ≡ element_bits b at (slice_index xs e)
 element-range b at xs e h =
     let whole = length-memory_bits b at xs in

@@ -14,6 +14,7 @@ pub is_prefix-no_longer : (part list : List Bool) → is_prefix part list ≡ tr
 is_prefix-no_longer part list begins =
     ⊎_elim (λ long. let none = is_prefix-long part list long in cc) (λ fits. fits) (cases_lt (length list) (length part))
 
+-- What begins or ends a list is no longer than it.
 pub is_suffix-no_longer : (part list : List Bool) → is_suffix part list ≡ true → length part ≤ length list
 is_suffix-no_longer part list ends =
     ⊎_elim (λ long. let none = is_suffix-long part list long in cc) (λ fits. fits) (cases_lt (length list) (length part))

@@ -5,9 +5,11 @@ use Rattle.std.proofs.lemmas.Bool.{cases_eq, cases_lt}
 use Rattle.bitvec_base.specs.Order.{Permutes}
 use Rattle.bitvec_store.specs.Width.{IsWidth}
 
+-- The two orders are lawful; each bit number has an index.
 pub lsb0_permutes : (b : ℕ) → IsWidth b → Permutes b (λ i. i)
 lsb0_permutes b w = record { below = λ i h. h; apart = λ i j h k e. e }
 
+-- The two orders are lawful; each bit number has an index.
 pub msb0_permutes : (b : ℕ) → IsWidth b → Permutes b (λ i. b - 1 - i)
 msb0_permutes b w = record { below = λ i h. omega arith; apart = λ i j h k e. omega arith }
 

@@ -17,6 +17,7 @@ part_window b part = record { start = part.element * b + part.from; len = part.t
 abbrev pub first_part_of : ℕ → Window → Part
 first_part_of b window = record { element = window.start / b; from = window.start % b; to = window.start % b + min window.len (b - window.start % b) }
 
+-- `first_part_of b window` and `last_part_of b window` (`Parts`) are the window's bits in its first and last element.
 abbrev pub last_part_of : ℕ → Window → Part
 last_part_of b window =
     let last = window.start + (window.len - 1) in

@@ -28,6 +28,7 @@ places_of-cons wanted bit bits =
 
 -- ---- the first
 
+-- The first place in no list, behind one bit more, in two lists joined.
 pub first_place-nil : (wanted : Bool) → first_place wanted [] ≡ None
 unfolding places_of
 first_place-nil wanted = refl
@@ -37,6 +38,7 @@ first_of true places = refl
 first_of false [] = refl
 first_of false (i ∷ places) = ap Some (sym (add-one i))
 
+-- The first place in no list, behind one bit more, in two lists joined.
 pub first_place-cons : (wanted bit : Bool) (bits : List Bool) → first_place wanted (bit ∷ bits) ≡ cond (beq bit wanted) (Some 0) (option_map (λ i. i + 1) (first_place wanted bits))
 first_place-cons wanted bit bits =
     ap (λ (l : List ℕ). slice_get l 0) (places_of-cons wanted bit bits)
@@ -64,6 +66,7 @@ first_below true o n below i found = let same : 0 ≡ i = cc in omega arith
 first_below false (Some j) n below i found = let h = below j refl in let same : j + 1 ≡ i = cc in omega arith
 first_below false None n below i found = cc
 
+-- A place that was found is below the length.
 pub first_place-below : (wanted : Bool) (list : List Bool) (i : ℕ) → first_place wanted list ≡ Some i → i < length list
 first_place-below wanted [] i found = let none = first_place-nil wanted in cc
 first_place-below wanted (x ∷ xs) i found =
@@ -71,6 +74,7 @@ first_place-below wanted (x ∷ xs) i found =
 
 -- ---- the last
 
+-- The last place in no list, behind one bit more, in a list of one, in two lists joined.
 pub last_place-nil : (wanted : Bool) → last_place wanted [] ≡ None
 unfolding places_of
 last_place-nil wanted = refl
@@ -97,10 +101,12 @@ last_of true places =
     last_or-some 0 (map suc places) ∙ ap (λ (o : Option ℕ). option_or o (Some 0)) (last_or-map None places)
 last_of false places = last_or-map None places ∙ or_none (option_map (λ (i : ℕ). i + 1) (last_or None places))
 
+-- The last place in no list, behind one bit more, in a list of one, in two lists joined.
 pub last_place-cons : (wanted bit : Bool) (bits : List Bool) → last_place wanted (bit ∷ bits) ≡ option_or (option_map (λ i. i + 1) (last_place wanted bits)) (cond (beq bit wanted) (Some 0) None)
 last_place-cons wanted bit bits =
     ap (last_or None) (places_of-cons wanted bit bits) ∙ last_of (beq bit wanted) (places_of wanted bits)
 
+-- The last place in no list, behind one bit more, in a list of one, in two lists joined.
 pub last_place-one : (wanted bit : Bool) → last_place wanted (bit ∷ []) ≡ cond (beq bit wanted) (Some 0) None
 last_place-one wanted bit = rw (last_place-cons wanted bit [], last_place-nil wanted) refl
 
@@ -124,6 +130,7 @@ last_below here (Some j) n below i found = let h = below j refl in let same : j 
 last_below true None n below i found = let same : 0 ≡ i = cc in omega arith
 last_below false None n below i found = cc
 
+-- A place that was found is below the length.
 pub last_place-below : (wanted : Bool) (list : List Bool) (i : ℕ) → last_place wanted list ≡ Some i → i < length list
 last_place-below wanted [] i found = let none = last_place-nil wanted in cc
 last_place-below wanted (x ∷ xs) i found =
@@ -136,11 +143,13 @@ not_wanted : (wanted : Bool) → beq (not wanted) wanted ≡ false
 not_wanted true = refl
 not_wanted false = refl
 
+-- In a list of the other bit there is none.
 pub first_place-other : (wanted : Bool) (n : ℕ) → first_place wanted (replicate n (not wanted)) ≡ None
 first_place-other wanted zero = first_place-nil wanted
 first_place-other wanted (suc n) =
     rw (first_place-cons wanted (not wanted) (replicate n (not wanted)), not_wanted wanted, first_place-other wanted n) refl
 
+-- In a list of the other bit there is none.
 pub last_place-other : (wanted : Bool) (n : ℕ) → last_place wanted (replicate n (not wanted)) ≡ None
 last_place-other wanted zero = last_place-nil wanted
 last_place-other wanted (suc n) =
@@ -217,9 +226,11 @@ first_at wanted [] i found = let none = first_place-nil wanted in absurd cc
 first_at wanted (x ∷ xs) i found =
     first_of_cons wanted x xs (beq x wanted) refl (first_place wanted xs) (first_at wanted xs) i (sym (first_place-cons wanted x xs) ∙ found)
 
+-- It has the bit.
 pub first_place-bit : (wanted : Bool) (list : List Bool) (i : ℕ) → first_place wanted list ≡ Some i → slice_index_or list i false ≡ wanted
 first_place-bit wanted list i found = (first_at wanted list i found).0
 
+-- None before it, or behind it, has.
 pub first_place-before : (wanted : Bool) (list : List Bool) (i k : ℕ) → first_place wanted list ≡ Some i → k < i → slice_index_or list k false ≢ wanted
 first_place-before wanted list i k found h = (first_at wanted list i found).1 k h
 
@@ -228,6 +239,7 @@ first_none_of_cons wanted x xs true is o rest found = absurd cc
 first_none_of_cons wanted x xs false is (Some j) rest found = absurd cc
 first_none_of_cons wanted x xs false is None rest found = absent_cons wanted x xs (differ x wanted is) (rest refl)
 
+-- Where none was found, no place has the bit.
 pub first_place-absent : (wanted : Bool) (list : List Bool) → first_place wanted list ≡ None → (k : ℕ) → k < length list → slice_index_or list k false ≢ wanted
 first_place-absent wanted [] found k h = absurd (omega arith)
 first_place-absent wanted (x ∷ xs) found k h =
@@ -238,6 +250,7 @@ last_none_of_cons wanted x xs here is (Some j) rest found = absurd cc
 last_none_of_cons wanted x xs true is None rest found = absurd cc
 last_none_of_cons wanted x xs false is None rest found = absent_cons wanted x xs (differ x wanted is) (rest refl)
 
+-- Where none was found, no place has the bit.
 pub last_place-absent : (wanted : Bool) (list : List Bool) → last_place wanted list ≡ None → (k : ℕ) → k < length list → slice_index_or list k false ≢ wanted
 last_place-absent wanted [] found k h = absurd (omega arith)
 last_place-absent wanted (x ∷ xs) found k h =
@@ -258,8 +271,10 @@ last_at wanted [] i found = let none = last_place-nil wanted in absurd cc
 last_at wanted (x ∷ xs) i found =
     last_of_cons wanted x xs (beq x wanted) refl (last_place wanted xs) (last_place-absent wanted xs) (last_at wanted xs) i (sym (last_place-cons wanted x xs) ∙ found)
 
+-- It has the bit.
 pub last_place-bit : (wanted : Bool) (list : List Bool) (i : ℕ) → last_place wanted list ≡ Some i → slice_index_or list i false ≡ wanted
 last_place-bit wanted list i found = (last_at wanted list i found).0
 
+-- None before it, or behind it, has.
 pub last_place-after : (wanted : Bool) (list : List Bool) (i k : ℕ) → last_place wanted list ≡ Some i → i < k → k < length list → slice_index_or list k false ≢ wanted
 last_place-after wanted list i k found low high = (last_at wanted list i found).1 k low high

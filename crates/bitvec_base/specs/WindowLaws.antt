@@ -14,9 +14,11 @@ pub get-window : {X : Type 0} (bits : List X) (window : Window) (i : ℕ) (d : X
 unfolding window_of
 get-window bits window i d inside = get-slice_range bits window.start (window.start + window.len) i d (omega arith)
 
+-- Of a window of one, the value at its place.
 pub get-one : {X : Type 0} (bits : List X) (place : ℕ) (d : X) → slice_index_or (window_of bits (bit_window place)) 0 d ≡ slice_index_or bits place d
 get-one bits place d = get-window bits (bit_window place) 0 d (omega arith) ∙ ap (λ (k : ℕ). slice_index_or bits k d) (omega arith)
 
+-- A window's list has the window's length.
 pub length-window : {X : Type 0} (bits : List X) (window : Window) → IsWithin window (length bits) → length (window_of bits window) ≡ window.len
 unfolding window_of
 length-window bits window within =

@@ -5,26 +5,32 @@ use Rattle.std.proofs.Math.Seq.{drop-append-add, drop-append_seam}
 use Rattle.std.proofs.lemmas.List.{length-take-le, same_lists, places, set_split, take_at}
 use Rattle.bitvec_base.specs.Window.{write_at}
 
+-- The values `a..e` are `e - a`.
 pub length-slice_range : {X : Type 0} (list : List X) (a e : ℕ) → e ≤ length list → length (slice_range list a e) ≡ e - a
 length-slice_range list a e h = omega (arith, length-take (e - a) (drop a list), length-drop a list)
 
+-- Value `k` of the values `a..e` is value `a + k`.
 pub get-slice_range : {X : Type 0} (list : List X) (a e k : ℕ) (d : X) → a + k < e → slice_index_or (slice_range list a e) k d ≡ slice_index_or list (a + k) d
 get-slice_range list a e k d h =
     let short : k < e - a = omega arith in
     get_or-take (e - a) (drop a list) k d short ∙ get_or-drop a list k d
 
+-- A write leaves the length.
 pub length-write_at : {X : Type 0} (list : List X) (s : ℕ) (new : List X) → s + length new ≤ length list → length (write_at list s new) ≡ length list
 unfolding write_at
 length-write_at list s new h = search (rules, places)
 
+-- A value before the write, in it, behind it.
 pub get-write_at_below : {X : Type 0} (list : List X) (s : ℕ) (new : List X) (k : ℕ) (d : X) → s ≤ length list → k < s → slice_index_or (write_at list s new) k d ≡ slice_index_or list k d
 unfolding write_at
 get-write_at_below list s new k d h below = grind (arith, places)
 
+-- A value before the write, in it, behind it.
 pub get-write_at_inside : {X : Type 0} (list : List X) (s : ℕ) (new : List X) (k : ℕ) (d : X) → s ≤ length list → s ≤ k → k < s + length new → slice_index_or (write_at list s new) k d ≡ slice_index_or new (k - s) d
 unfolding write_at
 get-write_at_inside list s new k d h low high = grind (arith, places)
 
+-- A value before the write, in it, behind it.
 pub get-write_at_above : {X : Type 0} (list : List X) (s : ℕ) (new : List X) (k : ℕ) (d : X) → s ≤ length list → s + length new ≤ k → slice_index_or (write_at list s new) k d ≡ slice_index_or list k d
 unfolding write_at
 get-write_at_above list s new k d h above = grind (arith, places)
@@ -49,6 +55,7 @@ range-write_at_before list s new a e h before =
     let short : a + k < e = omega arith in
     get-slice_range (write_at list s new) a e k d short ∙ get-write_at_below list s new (a + k) d (omega arith) (omega arith) ∙ sym (get-slice_range list a e k d short))
 
+-- A range before the write, and one behind it, is as before.
 pub range-write_at_after : {X : Type 0} (list : List X) (s : ℕ) (new : List X) (a e : ℕ) → s + length new ≤ length list → s + length new ≤ a → e ≤ length list → slice_range (write_at list s new) a e ≡ slice_range list a e
 range-write_at_after list s new a e h after within =
     let kept = length-write_at list s new h in
@@ -104,6 +111,7 @@ take-write_at list s new h =
     let long : length (take s list) ≡ s = omega (arith, length-take s list) in
     take_at (take s list) (new ++ drop (s + length new) list) s long
 
+-- What stands before a write, and behind it, is as before.
 pub drop-write_at : {X : Type 0} (list : List X) (s : ℕ) (new : List X) → s ≤ length list → drop (s + length new) (write_at list s new) ≡ drop (s + length new) list
 unfolding write_at
 drop-write_at list s new h =

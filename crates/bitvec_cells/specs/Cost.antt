@@ -11,6 +11,7 @@ touched_count b s n = if n == 0 then 0 else (s + n - 1) / b - s / b + 1
 abbrev pub part_loads : ℕ → Part → ℕ
 part_loads b part = if part.to - part.from == b then 0 else 1
 
+-- `fill_loads n`: two, none if `n` is 0.
 abbrev pub fill_loads : ℕ → ℕ
 fill_loads n = if n == 0 then 0 else 2
 
@@ -19,6 +20,7 @@ abbrev pub first_loads : ℕ → Window → Option ℕ → ℕ
 first_loads b window None = touched_count b window.start window.len
 first_loads b window (Some i) = touched_count b window.start (i + 1)
 
+-- `first_loads`, `last_loads`: the elements up to the place found.
 abbrev pub last_loads : ℕ → Window → Option ℕ → ℕ
 last_loads b window None = touched_count b window.start window.len
 last_loads b window (Some i) = touched_count b (window.start + i) (window.len - i)
@@ -45,6 +47,7 @@ read_loads b words n = work_steps words n * step_span b words
 unfoldable pub write_loads : ℕ → Bool → ℕ → ℕ
 write_loads b words n = work_steps words n * 2
 
+-- `read_loads`, `write_loads`, `write_stores`, `edit_loads` and their kin: what `n` bits may take.
 unfoldable pub write_stores : ℕ → Bool → ℕ → ℕ
 write_stores b words n = work_steps words n * step_span b words
 

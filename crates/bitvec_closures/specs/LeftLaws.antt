@@ -50,6 +50,7 @@ module _ {T O F : Type 0} {t : Store T} {o : Order O} {writes : BitSliceMut T O 
       → cut (seen_mut after).bits (way.place (seen_mut before).window.len k) ≡ left
   piece_left k left edits below same = piece_kept (λ _ _. ⊤) k left edits below tt (λ j f g p q holds is stepped. tt) (λ f g p q holds. same f g p q)
 
+  -- A piece, and a chunk, has what the closure left of it, as its bits now tell.
   pub chunk_left : {size : ℕ} (k : ℕ) (left : List Bool) → 0 < size → EditsPieces seen_mut name_of writes step edit before (in_chunks size) after → k * size < (seen_mut before).window.len
       → ((f g : F) (p q : MutBor (BitSliceMut T O t o)) → IsNumbered (seen_mut before) (in_chunks size) k (seen_mut p.now)
       → (seen_mut p.now).bits ≡ slice_range (seen_mut before).bits (k * size) (k * size + size) → step f k p tt q g → (seen_mut q.now).bits ≡ left)

@@ -77,6 +77,7 @@ inside_edges b window = min 1 (window.start % b) + min 1 ((window.start + window
 
 -- the window holds other bits; each element that it touches was stored once at most, and none loaded but those of such edges
 module _ {E C : Type 0} (access : Access C E) where
+  -- `PutsBits` (`Acts`), `CombinesBits`, `FindsDifference` (`Sides`): to a window, given as many bits, and at what cost.
   pub record PutsBits (b : ℕ) (at : ℕ → ℕ → ℕ) (old new : C) (window : Window) (list : List Bool) : Type 0 where
     pub writes : Writes b at (access.numbers old) (access.numbers new) window list
     pub cost : CostsAtMost access old new (inside_edges b window) (touched_count b window.start window.len)

@@ -15,6 +15,7 @@ cut xs places = slice_range xs places.start places.end
 abbrev pub window_count : ℕ → ℕ → ℕ
 window_count size len = len + 1 - size
 
+-- `k..k + w`.
 abbrev pub window : ℕ → ℕ → ℕ → Range ℕ
 window size len number = record { start = number; end = number + size }
 
@@ -22,6 +23,7 @@ window size len number = record { start = number; end = number + size }
 abbrev pub chunk_count : ℕ → ℕ → ℕ
 chunk_count size len = div_ceil len size
 
+-- `k * w` up to the lesser of `(k + 1) * w` and `len`.
 abbrev pub chunk : ℕ → ℕ → ℕ → Range ℕ
 chunk size len number = record { start = number * size; end = min ((number + 1) * size) len }
 
@@ -29,9 +31,11 @@ chunk size len number = record { start = number * size; end = min ((number + 1) 
 abbrev pub whole_count : ℕ → ℕ → ℕ
 whole_count size len = len / size
 
+-- `k * w..(k + 1) * w`.
 abbrev pub whole_chunk : ℕ → ℕ → ℕ → Range ℕ
 whole_chunk size len number = record { start = number * size; end = (number + 1) * size }
 
+-- What whole chunks leave.
 abbrev pub left_behind : ℕ → ℕ → Range ℕ
 left_behind size len = record { start = len - len % size; end = len }
 

@@ -12,5 +12,6 @@ walk piece front back = map piece (range_with_len front (back - front))
 abbrev pub cut_all : {X : Type 0} → (ℕ → ℕ) → (ℕ → ℕ → Range ℕ) → List X → List (List X)
 cut_all pieces place xs = walk (λ number. cut xs (place (length xs) number)) 0 (pieces (length xs))
 
+-- All chunks of a list.
 abbrev pub chunks_of : {X : Type 0} → ℕ → List X → List (List X)
 chunks_of size = cut_all (chunk_count size) (chunk size)

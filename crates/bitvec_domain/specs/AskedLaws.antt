@@ -33,6 +33,7 @@ module _ {F A : Type 0} (g : Mut F A Bool) (asked : ℕ → A) where
         let next = keeps done p call.0 calls.0 held (subst (λ (i : ℕ). R p i call.0 calls.0) here call.1) in
         calls-keep n xs gave.0 t (done ++ (call.0 ∷ [])) calls.0 q (omega (arith, at, gave.1.2, length-append done (call.0 ∷ []))) next gave.2 calls.2
 
+    -- So may one that keeps a fact under which it may be called.
     pub callable-by : (f : F) (n : ℕ) → J [] f → ((done : List Bool) (p : F) → J done p → length done < n → Takes g p (asked (length done))) → CallableTo g asked f n
     callable-by f n first allows = record {
       at = λ xs t q x u gave calls more.

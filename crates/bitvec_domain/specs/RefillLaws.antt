@@ -13,6 +13,7 @@ put-keeps xs mid start end order bound long = record {
   behind = same_lists _ _ (search (rules, places)) (λ k d inside. grind (arith, places));
 }
 
+-- A list whose range was replaced keeps the values outside it.
 pub with_range-keeps : {X : Type 0} (xs ws : List X) (start end : ℕ) → start ≤ end → end ≤ length xs → KeepsOutside start end xs (with_range xs start end ws)
 with_range-keeps xs ws start end order bound =
     let mid = slice_range xs start end in

@@ -13,6 +13,7 @@ use Rattle.bitvec_in_place.specs.RangeBitsLaws.{bits-same}
 use Rattle.bitvec_in_place.specs.Ranges.{ChangesOnly, bits_in, edited, filled, flipped, joined, number_in, numbered}
 use Rattle.bitvec_in_place.specs.RangesLaws.{get-filled_outside, get-flipped_outside, get-joined_outside, get-moved_end_outside, get-moved_start_outside, get-numbered_outside, get-reversed_outside, get-rotated_left_outside, get-rotated_right_outside, length-filled, length-flipped, length-joined, length-moved_end, length-moved_start, length-numbered, length-reversed, length-rotated_left, length-rotated_right}
 
+-- No edit is such an edit.
 pub changes-none : (from to : ℕ) (list : List Bool) → ChangesOnly from to list list
 changes-none from to list = record { length = refl; bits = λ k outside. refl }
 
@@ -28,33 +29,43 @@ changes-then from to a e c f old mid new first second low high also within = rec
 -- ---- edits of a range
 
 module _ (list : List Bool) (from to : ℕ) (order : from ≤ to) (inside : to ≤ length list) where
+  -- Each edit of a range is one of this range, and so is a write of a list that is as long.
   pub changes-filled : (bit : Bool) → ChangesOnly from to list (filled list from to bit)
   changes-filled bit = record { length = length-filled list from to bit order inside; bits = λ k outside. get-filled_outside list from to bit k false order inside outside }
 
+  -- Each edit of a range is one of this range, and so is a write of a list that is as long.
   pub changes-flipped : ChangesOnly from to list (flipped list from to)
   changes-flipped = record { length = length-flipped list from to order inside; bits = λ k outside. get-flipped_outside list from to k false order inside outside }
 
+  -- Each edit of a range is one of this range, and so is a write of a list that is as long.
   pub changes-reversed : ChangesOnly from to list (edited reverse list from to)
   changes-reversed = record { length = length-reversed list from to order inside; bits = λ k outside. get-reversed_outside list from to k false order inside outside }
 
+  -- Each edit of a range is one of this range, and so is a write of a list that is as long.
   pub changes-rotated_left : (by : ℕ) → ChangesOnly from to list (edited (rotated_left by) list from to)
   changes-rotated_left by = record { length = length-rotated_left by list from to order inside; bits = λ k outside. get-rotated_left_outside by list from to k false order inside outside }
 
+  -- Each edit of a range is one of this range, and so is a write of a list that is as long.
   pub changes-rotated_right : (by : ℕ) → ChangesOnly from to list (edited (rotated_right by) list from to)
   changes-rotated_right by = record { length = length-rotated_right by list from to order inside; bits = λ k outside. get-rotated_right_outside by list from to k false order inside outside }
 
+  -- Each edit of a range is one of this range, and so is a write of a list that is as long.
   pub changes-moved_start : (by : ℕ) → by ≤ to - from → ChangesOnly from to list (edited (shifted_start by) list from to)
   changes-moved_start by fits = record { length = length-moved_start by list from to order inside fits; bits = λ k outside. get-moved_start_outside by list from to k false order inside fits outside }
 
+  -- Each edit of a range is one of this range, and so is a write of a list that is as long.
   pub changes-moved_end : (by : ℕ) → by ≤ to - from → ChangesOnly from to list (edited (shifted_end by) list from to)
   changes-moved_end by fits = record { length = length-moved_end by list from to order inside fits; bits = λ k outside. get-moved_end_outside by list from to k false order inside fits outside }
 
+  -- Each edit of a range is one of this range, and so is a write of a list that is as long.
   pub changes-joined : (f : Bool → Bool → Bool) (other : List Bool) → ChangesOnly from to list (joined f list from to other)
   changes-joined f other = record { length = length-joined f list from to other order inside; bits = λ k outside. get-joined_outside f list from to other k false order inside outside }
 
+  -- Each edit of a range is one of this range, and so is a write of a list that is as long.
   pub changes-numbered : (big high : Bool) (b v : ℕ) → ChangesOnly from to list (numbered big high b list from to v)
   changes-numbered big high b v = record { length = length-numbered big high b list from to v order inside; bits = λ k outside. get-numbered_outside big high b list from to v k false order inside outside }
 
+  -- Each edit of a range is one of this range, and so is a write of a list that is as long.
   pub changes-written : (new : List Bool) → from + length new ≡ to → ChangesOnly from to list (write_at list from new)
   changes-written new long = record { length = length-put list from to new order inside (omega arith); bits = λ k outside. get-put_outside list from to new order inside (omega arith) k false outside }
 
@@ -72,6 +83,7 @@ changes-copied from to dest list source room = record {
   bits = λ k outside. get-copied_outside from to dest list k false source room outside;
 }
 
+-- Of a bit that was set, and of the bits from `dest` on that were copied or combined.
 pub changes-combined : (f : Bool → Bool → Bool) (from to dest : ℕ) (list : List Bool) → from ≤ to → dest + (to - from) ≤ length list → ChangesOnly dest (dest + (to - from)) list (combined_within f from to dest list)
 changes-combined f from to dest list order room = record {
   length = length-combined_within f from to dest list order room;
@@ -82,6 +94,7 @@ changes-combined f from to dest list order room = record {
 
 -- ---- beside the range
 
+-- Beside the range the bits and the number of another are as before.
 pub bits-unchanged : (old new : List Bool) (from to a e : ℕ) → ChangesOnly from to old new → e ≤ length old → (e ≤ from) ⊎ (to ≤ a) → bits_in new a e ≡ bits_in old a e
 bits-unchanged old new from to a e kept within apart =
     let long = kept.length in
@@ -89,6 +102,7 @@ bits-unchanged old new from to a e kept within apart =
     let other : (k < from) ⊎ (to ≤ k) = ⊎_elim (λ (before : e ≤ from). inl (omega arith)) (λ (after : to ≤ a). inr (omega arith)) apart in
     get_or_default new k d false (omega arith) ∙ kept.bits k other ∙ get_or_default old k false d (omega arith))
 
+-- Beside the range the bits and the number of another are as before.
 pub number-unchanged : (big high : Bool) (b : ℕ) (old new : List Bool) (from to a e : ℕ) → ChangesOnly from to old new → e ≤ length old → (e ≤ from) ⊎ (to ≤ a)
     → number_in big high b new a e ≡ number_in big high b old a e
 number-unchanged big high b old new from to a e kept within apart =

@@ -14,6 +14,8 @@ pub record Cursor : Type 0 where
   pub position : ℕ
 
 module _ {T O : Type 0} {t : Store T} {o : Order O} where
+  -- `reading reader`, `writing writer` (`Cursors`): the bits that a `BitReader` reads, those of the elements of a `BitWriter`, and how
+  -- many of them were passed (`Cursor`).
   abbrev pub reading : BitReader T O t o → Cursor
   reading reader = record { bits = (seen reader.view).bits; position = reader.position }
 
@@ -21,6 +23,8 @@ module _ {T O : Type 0} {t : Store T} {o : Order O} where
   abbrev pub start_of : BitReader T O t o → ℕ
   start_of reader = (seen reader.view).window.start
 
+  -- `reading reader`, `writing writer` (`Cursors`): the bits that a `BitReader` reads, those of the elements of a `BitWriter`, and how
+  -- many of them were passed (`Cursor`).
   abbrev pub writing : BitWriter T O t o → Cursor
   writing writer = record { bits = memory_bits t.BITS o.at (map t.value writer.elements.now); position = writer.position }
 
@@ -28,5 +32,6 @@ module _ {T O : Type 0} {t : Store T} {o : Order O} where
   abbrev pub elements_of : BitWriter T O t o → List T
   elements_of writer = writer.elements.now
 
+  -- `elements_of writer`, `lender_of writer`: its elements, and the name of their borrow.
   abbrev pub lender_of : BitWriter T O t o → GName
   lender_of writer = writer.elements.ghost_name

@@ -20,6 +20,7 @@ use Rattle.bitvec_segments.specs.Segments.{loaded}
 
 -- ---- of any list
 
+-- The first n of a list that was written among them, and behind them.
 pub take-written_behind : {X : Type 0} (list : List X) (s n : ℕ) (new : List X) → n ≤ s → s + length new ≤ length list → take n (write_at list s new) ≡ take n list
 take-written_behind list s n new order room =
     let kept = length-write_at list s new room in
@@ -28,6 +29,7 @@ take-written_behind list s n new order room =
     same_lists _ _ (omega arith) (λ k d inside.
     get_or-take n (write_at list s new) k d (omega arith) ∙ get-write_at_below list s new k d (omega arith) (omega arith) ∙ sym (get_or-take n list k d (omega arith)))
 
+-- The first n of a list that was written among them, and behind them.
 pub take-written_inside : {X : Type 0} (list : List X) (s n : ℕ) (new : List X) → s + length new ≤ n → n ≤ length list → take n (write_at list s new) ≡ write_at (take n list) s new
 take-written_inside list s n new room inside =
     let kept = length-write_at list s new (omega arith) in
@@ -49,12 +51,15 @@ module _ {X : Type 0} (list : List X) (i : ℕ) (x : X) (a e : ℕ) (inside : e 
       ∙ get_or-set_other list i (a + k) x d (other (a + k) (omega arith) short)
       ∙ sym (get-slice_range list a e k d short))
 
+  -- A range that ends before a value that was set, that has it, that begins behind it.
   pub range-set_before : e ≤ i → slice_range (slice_set list i x) a e ≡ slice_range list a e
   range-set_before before = range-set_other (λ k low high same. omega arith)
 
+  -- A range that ends before a value that was set, that has it, that begins behind it.
   pub range-set_after : i < a → slice_range (slice_set list i x) a e ≡ slice_range list a e
   range-set_after after = range-set_other (λ k low high same. omega arith)
 
+  -- A range that ends before a value that was set, that has it, that begins behind it.
   pub range-set_inside : a ≤ i → i < e → slice_range (slice_set list i x) a e ≡ slice_set (slice_range list a e) (i - a) x
   range-set_inside low high =
       let kept = length-set list i x in
@@ -71,18 +76,22 @@ module _ {X : Type 0} (list : List X) (i : ℕ) (x : X) (a e : ℕ) (inside : e 
 
 -- ---- of the first bits
 
+-- They are n, and each is the list's.
 pub length-front : (list : List Bool) (n : ℕ) → n ≤ length list → length (front_bits list n) ≡ n
 unfolding front_bits
 length-front list n inside = length-take-le n list inside
 
+-- They are n, and each is the list's.
 pub get-front : (list : List Bool) (n k : ℕ) (d : Bool) → k < n → slice_index_or (front_bits list n) k d ≡ slice_index_or list k d
 unfolding front_bits
 get-front list n k d below = get_or-take n list k d below
 
+-- The first 0 are none.
 pub front-none : (list : List Bool) → front_bits list 0 ≡ []
 unfolding front_bits
 front-none list = refl
 
+-- The first n of n or fewer are all.
 pub front-all : (list : List Bool) (n : ℕ) → length list ≤ n → front_bits list n ≡ list
 unfolding front_bits
 front-all list n all = take_all n list all
@@ -92,6 +101,7 @@ pub front-shorter : (list : List Bool) (n m : ℕ) → n ≤ m → take n (front
 unfolding front_bits
 front-shorter list n m order = take-take n m list order
 
+-- Of the first m, the first n of fewer, and of no fewer.
 pub front-longer : (list : List Bool) (n m : ℕ) → m ≤ n → m ≤ length list → take n (front_bits list m) ≡ front_bits list m
 unfolding front_bits
 front-longer list n m order inside =
@@ -116,10 +126,12 @@ range-in_front list n a e order below =
     ∙ ap (take (e - a)) (drop-take a (n - a) list)
     ∙ take-take (e - a) (n - a) (drop a list) (omega arith)
 
+-- The bits and the number of a range among them are the list's.
 pub front-bits : (list : List Bool) (n a e : ℕ) → a ≤ e → e ≤ n → bits_in (front_bits list n) a e ≡ bits_in list a e
 unfolding front_bits bits_in
 front-bits list n a e order below = range-in_front list n a e order below
 
+-- The bits and the number of a range among them are the list's.
 pub front-number : (big high : Bool) (b : ℕ) (list : List Bool) (n a e : ℕ) → a ≤ e → e ≤ n → number_in big high b (front_bits list n) a e ≡ number_in big high b list a e
 unfolding front_bits number_in
 front-number big high b list n a e order below = ap (loaded big high b a) (range-in_front list n a e order below)
@@ -127,38 +139,46 @@ front-number big high b list n a e order below = ap (loaded big high b a) (range
 -- ---- after an edit
 
 module _ (list : List Bool) (n : ℕ) where
+  -- After a bit was set among them, behind them, and right behind the first n: these and the bit.
   pub front-set_inside : (i : ℕ) (bit : Bool) → i < n → front_bits (slice_set list i bit) n ≡ slice_set (front_bits list n) i bit
   unfolding front_bits
   front-set_inside i bit below = take-set-lt n list i bit below
 
+  -- After a bit was set among them, behind them, and right behind the first n: these and the bit.
   pub front-set_behind : (i : ℕ) (bit : Bool) → n ≤ i → front_bits (slice_set list i bit) n ≡ front_bits list n
   unfolding front_bits
   front-set_behind i bit order = take-set-le n list i bit order
 
+  -- After a bit was set among them, behind them, and right behind the first n: these and the bit.
   pub front-set_next : (i : ℕ) (bit : Bool) → n ≡ i + 1 → i < length list → front_bits (slice_set list i bit) n ≡ front_bits list i ++ bit ∷ []
   unfolding front_bits
   front-set_next i bit is inside = take-set_at list i n bit is inside
 
+  -- After a write from the first s on: these and what was written; after one among them, and behind them.
   pub front-written : (s : ℕ) (new : List Bool) → n ≡ s + length new → s ≤ length list → front_bits (write_at list s new) n ≡ front_bits list s ++ new
   unfolding front_bits
   front-written s new is inside = take-written list s n new inside is
 
+  -- After a write from the first s on: these and what was written; after one among them, and behind them.
   pub front-written_inside : (s : ℕ) (new : List Bool) → s + length new ≤ n → n ≤ length list → front_bits (write_at list s new) n ≡ write_at (front_bits list n) s new
   unfolding front_bits
   front-written_inside s new room inside = take-written_inside list s n new room inside
 
+  -- After a fill from the first s on: these and so many of the bit.
   pub front-filled : (s : ℕ) (bit : Bool) → s ≤ n → n ≤ length list → front_bits (filled list s n bit) n ≡ front_bits list s ++ replicate (n - s) bit
   unfolding filled
   front-filled s bit order inside =
       let long = length-replicate (n - s) bit in
       front-written s (replicate (n - s) bit) (omega arith) (omega arith)
 
+  -- After a write from the first s on: these and what was written; after one among them, and behind them.
   pub front-written_behind : (s : ℕ) (new : List Bool) → n ≤ s → s + length new ≤ length list → front_bits (write_at list s new) n ≡ front_bits list n
   unfolding front_bits
   front-written_behind s new order room = take-written_behind list s n new order room
 
 -- ---- of a memory
 
+-- Two ranges side by side, joined, are one.
 pub ranges-joined : {X : Type 0} (list : List X) (a m e : ℕ) → a ≤ m → m ≤ e → slice_range list a e ≡ slice_range list a m ++ slice_range list m e
 ranges-joined list a m e low high =
     let long : e - a ≡ (m - a) + (e - m) = omega arith in
@@ -177,6 +197,7 @@ front-grown b at xs ys n some inside =
 -- ---- with a bit more, and a bit fewer
 
 module _ (list : List Bool) (len index : ℕ) where
+  -- Both leave the length, and each bit behind.
   pub length-inserted : (bit : Bool) → index ≤ len → len < length list → length (inserted list len index bit) ≡ length list
   unfolding inserted
   length-inserted bit order room =
@@ -184,6 +205,7 @@ module _ (list : List Bool) (len index : ℕ) where
       let long = length-insert (take len list) index bit (omega arith) in
       length-write_at list 0 (insert (take len list) index bit) (omega arith)
 
+  -- `in_place::insert` and `remove` are std's `insert` and `remove` on them.
   pub front-inserted : (bit : Bool) (n : ℕ) → n ≡ len + 1 → index ≤ len → len < length list → front_bits (inserted list len index bit) n ≡ insert (front_bits list len) index bit
   unfolding front_bits inserted
   front-inserted bit n is order room =
@@ -191,6 +213,7 @@ module _ (list : List Bool) (len index : ℕ) where
       let long = length-insert (take len list) index bit (omega arith) in
       take-written list 0 n (insert (take len list) index bit) (omega arith) (omega arith)
 
+  -- Both leave the length, and each bit behind.
   pub get-inserted_behind : (bit : Bool) (k : ℕ) (d : Bool) → index ≤ len → len < length list → len < k → slice_index_or (inserted list len index bit) k d ≡ slice_index_or list k d
   unfolding inserted
   get-inserted_behind bit k d order room behind =
@@ -198,6 +221,7 @@ module _ (list : List Bool) (len index : ℕ) where
       let long = length-insert (take len list) index bit (omega arith) in
       get-write_at_above list 0 (insert (take len list) index bit) k d (omega arith) (omega arith)
 
+  -- Both leave the length, and each bit behind.
   pub length-removed : index < len → len ≤ length list → length (removed list len index) ≡ length list
   unfolding removed
   length-removed below inside =
@@ -205,6 +229,7 @@ module _ (list : List Bool) (len index : ℕ) where
       let long = length-remove (take len list) index (omega arith) in
       length-write_at list 0 (remove (take len list) index) (omega arith)
 
+  -- `in_place::insert` and `remove` are std's `insert` and `remove` on them.
   pub front-removed : (n : ℕ) → n + 1 ≡ len → index < len → len ≤ length list → front_bits (removed list len index) n ≡ remove (front_bits list len) index
   unfolding front_bits removed
   front-removed n is below inside =
@@ -212,6 +237,7 @@ module _ (list : List Bool) (len index : ℕ) where
       let long = length-remove (take len list) index (omega arith) in
       take-written list 0 n (remove (take len list) index) (omega arith) (omega arith)
 
+  -- Both leave the length, and each bit behind.
   pub get-removed_behind : (k : ℕ) (d : Bool) → index < len → len ≤ length list → len ≤ k + 1 → slice_index_or (removed list len index) k d ≡ slice_index_or list k d
   unfolding removed
   get-removed_behind k d below inside behind =
@@ -230,6 +256,7 @@ inserted-each list len index bit order room k d below =
     (λ (other : k ≢ index). get_or-set_other (copied_within index len (index + 1) list) index k bit d other ∙ grind (arith, places))
     (cases_eq k index)
 
+-- Both are a copy by one place, and a bit set.
 pub inserted-is : (list : List Bool) (len index : ℕ) (bit : Bool) → index ≤ len → len < length list → slice_set (copied_within index len (index + 1) list) index bit ≡ inserted list len index bit
 unfolding copied_within inserted
 inserted-is list len index bit order room =
@@ -241,6 +268,7 @@ inserted-is list len index bit order room =
     let set = length-set (write_at list (index + 1) (slice_range list index len)) index bit in
     same_lists _ _ (omega arith) (λ k d below. inserted-each list len index bit order room k d (omega arith))
 
+-- Both are a copy by one place, and a bit set.
 pub removed-is : (list : List Bool) (len index : ℕ) → index < len → len ≤ length list → copied_within (index + 1) len index list ≡ removed list len index
 unfolding copied_within removed write_at
 removed-is list len index below inside = same_lists _ _ (search (rules, places)) (λ k d h. grind (arith, places))

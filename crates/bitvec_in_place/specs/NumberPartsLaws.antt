@@ -34,6 +34,7 @@ loaded-joined : (big high : Bool) (b s : ℕ) (list : List Bool) → 0 < b → (
 loaded-joined big high b s list some joins =
     ⊎_elim (λ (is : big ≡ high). loaded-plain big high b s list is) (λ (inside : s % b + length list ≤ b). loaded-segment big high b s list some inside) joins
 
+-- Where segments join, it is that of one segment.
 pub number-joined_is : (big high : Bool) (b : ℕ) (list : List Bool) (a e : ℕ) → 0 < b → e ≤ length list → (big ≡ high) ⊎ (a % b + (e - a) ≤ b) → number_in big high b list a e ≡ segment_number high (bits_in list a e)
 unfolding number_in bits_in
 number-joined_is big high b list a e some within joins =
@@ -68,6 +69,7 @@ all_counts true from to v = let none : to - to ≡ 0 = omega arith in ap (λ (n 
 all_counts false from to v = let none : from - from ≡ 0 = omega arith in ap (λ (n : ℕ). v / 2 ^ n) none ∙ omega arith
 
 module _ (big high : Bool) (b : ℕ) (list : List Bool) (from to v : ℕ) where
+  -- A bit of a stored number, where its segments join without a seam or it lies in one element.
   pub get-numbered_inside : (k : ℕ) (d : Bool) → 0 < b → (big ≡ high) ⊎ (from % b + (to - from) ≤ b) → to ≤ length list → from ≤ k → k < to
       → slice_index_or (numbered big high b list from to v) k d ≡ (v / 2 ^ (if high then to - 1 - k else k - from) % 2 == 1)
   unfolding numbered
@@ -180,21 +182,25 @@ loaded_ones (suc most) big high b s (suc n) some few =
     ∙ ones_side big k (suc n - k) ∙ ap (λ (m : ℕ). 2 ^ m - 1) whole
 
 module _ (big high : Bool) (b : ℕ) (list : List Bool) (from to a e : ℕ) (some : 0 < b) (low : from ≤ a) (order : a ≤ e) (below : e ≤ to) (inside : to ≤ length list) where
+  -- The number of a range that was cleared, and of one that was filled.
   pub number-cleared : number_in big high b (filled list from to false) a e ≡ 0
   unfolding number_in bits_in
   number-cleared = ap (loaded big high b a) (bits-in_filled list from to a e false low below inside (omega arith)) ∙ loaded_zeros (e - a) big high b a (e - a) some (omega arith)
 
+  -- The number of a range that was cleared, and of one that was filled.
   pub number-filled_up : number_in big high b (filled list from to true) a e ≡ 2 ^ (e - a) - 1
   unfolding number_in bits_in
   number-filled_up = ap (loaded big high b a) (bits-in_filled list from to a e true low below inside (omega arith)) ∙ loaded_ones (e - a) big high b a (e - a) some (omega arith)
 
 -- ---- beside two ranges that were exchanged, and beside one that was combined with another
 
+-- A number beside ranges that were exchanged, and beside one that was combined, is as before.
 pub number-swapped : (big high : Bool) (b from to dest : ℕ) (list : List Bool) (a e : ℕ) → from ≤ to → to ≤ length list → dest + (to - from) ≤ length list → e ≤ length list
     → (e ≤ from) ⊎ (to ≤ a) → (e ≤ dest) ⊎ (dest + (to - from) ≤ a) → number_in big high b (swapped_within from to dest list) a e ≡ number_in big high b list a e
 number-swapped big high b from to dest list a e order source room within front back =
     number-same_bits big high b list (swapped_within from to dest list) a e a e refl (bits-swapped list from to a e dest order source room within front back)
 
+-- A number beside ranges that were exchanged, and beside one that was combined, is as before.
 pub number-combined : (big high : Bool) (b : ℕ) (f : Bool → Bool → Bool) (from to dest : ℕ) (list : List Bool) (a e : ℕ) → from ≤ to → dest + (to - from) ≤ length list → e ≤ length list
     → (e ≤ dest) ⊎ (dest + (to - from) ≤ a) → number_in big high b (combined_within f from to dest list) a e ≡ number_in big high b list a e
 number-combined big high b f from to dest list a e order room within apart =
@@ -236,11 +242,13 @@ module _ (big high : Bool) (b from to dest : ℕ) (list : List Bool) (a e : ℕ)
       number-moved big high b list (copied_within from to dest list) a e from dest some order low (lasting.length-copied_within from to dest list inside room) (omega arith) (omega arith) whole
       (λ k d above below. get-copied_inside from to dest list k d inside room (omega arith) (omega arith))
 
+  -- A number that was moved by whole elements, or whose segments join without a seam, is the same.
   pub number-swapped_to : dest ≤ a → e ≤ dest + (to - from) → (big ≡ high) ⊎ (from % b ≡ dest % b) → number_in big high b (swapped_within from to dest list) a e ≡ number_in big high b list (from + (a - dest)) (from + (e - dest))
   number-swapped_to low high_end whole =
       number-moved big high b list (swapped_within from to dest list) a e from dest some order low (length-swapped from to dest list source inside room) (omega arith) (omega arith) whole
       (λ k d above below. get-swapped_back from to dest list source inside room k d (omega arith) (omega arith))
 
+  -- A number that was moved by whole elements, or whose segments join without a seam, is the same.
   pub number-swapped_from : LieApart from to dest → from ≤ a → e ≤ to → (big ≡ high) ⊎ (dest % b ≡ from % b) → number_in big high b (swapped_within from to dest list) a e ≡ number_in big high b list (dest + (a - from)) (dest + (e - from))
   number-swapped_from apart low high_end whole =
       number-moved big high b list (swapped_within from to dest list) a e dest from some order low (length-swapped from to dest list source inside room) (omega arith) (omega arith) whole

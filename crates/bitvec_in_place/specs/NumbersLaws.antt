@@ -16,6 +16,7 @@ use Rattle.bitvec_in_place.specs.Ranges.{number_in, numbered}
 
 -- ---- of lists
 
+-- A number stored in n bits of a list, the bound of one loaded there, and how many bits these are.
 pub length-part : {X : Type 0} (list : List X) (a n : ℕ) → a + n ≤ length list → length (take n (drop a list)) ≡ n
 length-part list a n inside = omega (arith, length-take n (drop a list), length-drop a list)
 
@@ -31,6 +32,7 @@ number-stored big high b s v list from n some inside =
     let stands : take n (drop from (write_at list from new)) ≡ new = ap (λ (m : ℕ). take m (drop from (write_at list from new))) (sym size) ∙ range-write_at list from new (omega arith) in
     ap (loaded big high b s) stands ∙ stored-loads big high b s v old some ∙ ap (λ (m : ℕ). v % 2 ^ m) was
 
+-- A number stored in n bits of a list, the bound of one loaded there, and how many bits these are.
 pub loaded-part_below : (big high : Bool) (b s : ℕ) (list : List Bool) (from n : ℕ) → from + n ≤ length list → loaded big high b s (take n (drop from list)) < 2 ^ n
 loaded-part_below big high b s list from n inside =
     let long = length-part list from n inside in
@@ -38,12 +40,14 @@ loaded-part_below big high b s list from n inside =
 
 -- ---- of ranges of a memory's bits
 
+-- The number of n bits is below `2^n`.
 pub number-below : (big high : Bool) (b : ℕ) (list : List Bool) (from to : ℕ) → to ≤ length list → number_in big high b list from to < 2 ^ (to - from)
 unfolding number_in
 number-below big high b list from to inside =
     let long = length-slice_range list from to inside in
     rw long at (loaded-below big high b from (slice_range list from to))
 
+-- A number stored in a range of n bits is its number modulo `2^n`.
 pub number-numbered : (big high : Bool) (b : ℕ) (list : List Bool) (from to v : ℕ) → 0 < b → from ≤ to → to ≤ length list → number_in big high b (numbered big high b list from to v) from to ≡ v % 2 ^ (to - from)
 unfolding number_in numbered
 number-numbered big high b list from to v some order inside = number-stored big high b from v list from (to - from) some (omega arith)
@@ -79,6 +83,7 @@ number-swap big high b list i j a e first second within apart beside =
 pub number-written : (big high : Bool) (b : ℕ) (list : List Bool) (from : ℕ) (new : List Bool) (a e : ℕ) → from + length new ≤ length list → a ≤ e → e ≤ length list → (e ≤ from) ⊎ (from + length new ≤ a) → number_in big high b (write_at list from new) a e ≡ number_in big high b list a e
 number-written big high b list from new a e room some within apart = number-put list from (from + length new) new (omega arith) room (omega arith) big high b a e some within apart
 
+-- Beside a bit that was set, two that were exchanged, a write and a copy it is as before.
 pub number-copied : (big high : Bool) (b from to dest : ℕ) (list : List Bool) (a e : ℕ) → from ≤ to → to ≤ length list → dest + (to - from) ≤ length list → a ≤ e → e ≤ length list → (e ≤ dest) ⊎ (dest + (to - from) ≤ a) → number_in big high b (copied_within from to dest list) a e ≡ number_in big high b list a e
 unfolding copied_within
 number-copied big high b from to dest list a e order source room some within apart =

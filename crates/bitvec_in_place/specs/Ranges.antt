@@ -19,9 +19,11 @@ bits_in list from to = slice_range list from to
 unfoldable pub filled : List Bool → ℕ → ℕ → Bool → List Bool
 filled list from to bit = write_at list from (replicate (to - from) bit)
 
+-- `flipped list from to`: each is its opposite.
 unfoldable pub flipped : List Bool → ℕ → ℕ → List Bool
 flipped list from to = write_at list from (map not (slice_range list from to))
 
+-- `edited edit list from to`: they are what `edit` makes of them, as `reverse` or `rotated_left 1`.
 unfoldable pub edited : (List Bool → List Bool) → List Bool → ℕ → ℕ → List Bool
 edited edit list from to = write_at list from (edit (slice_range list from to))
 
@@ -33,6 +35,7 @@ joined f list from to other = write_at list from (combined f (slice_range list f
 unfoldable pub number_in : Bool → Bool → ℕ → List Bool → ℕ → ℕ → ℕ
 number_in big high b list from to = loaded big high b from (slice_range list from to)
 
+-- `numbered big high b list from to v`: the range has the bits that a store of `v` leaves.
 unfoldable pub numbered : Bool → Bool → ℕ → List Bool → ℕ → ℕ → ℕ → List Bool
 numbered big high b list from to v = write_at list from (stored big high b from v (slice_range list from to))
 

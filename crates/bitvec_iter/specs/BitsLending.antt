@@ -32,6 +32,7 @@ module _ {T O : Type 0} {t : Store T} {o : Order O} where
   abbrev pub passed : IterMut T O t o → ℕ → IterMut T O t o
   passed i count = record i { front = i.front + min count (i.back - i.front) }
 
+  -- `passed`, `passed_back`: the walk without its first or last pieces.
   abbrev pub passed_back : IterMut T O t o → ℕ → IterMut T O t o
   passed_back i count = record i { back = i.back - min count (i.back - i.front); numbered = omega (arith, i.numbered) }
 
@@ -75,6 +76,8 @@ module _ (T O : RattleType) {t : Store T.Denot} {o : Order O.Denot} where
   abbrev pub lends_range : MutBor (IterMut T.Denot O.Denot t o) → IterMut T.Denot O.Denot t o → ℕ → ℕ → GName → Fml
   lends_range i next start end name = follows (the_row of_lender T O t o) (Array T 0) i.ghost_name name (λ ws. with_elements next (with_range i.now.elements.now start end ws))
 
+  -- `lends_first`, `lends_last`, `lends_rest`, `lends_part`, `lends_bits` (`PiecesLending`, `BitsLending`, `HalvesLending`): as before
+  -- but for what was left in the lent elements, and without that number.
   abbrev pub lends_part : MutBor (IterMut T.Denot O.Denot t o) → ℕ → ℕ → GName → Fml
   lends_part i start end name = lends_range i i.now start end name
 
@@ -86,6 +89,8 @@ module _ (T O : RattleType) {t : Store T.Denot} {o : Order O.Denot} where
   abbrev pub lends_first : MutBor (IterMut T.Denot O.Denot t o) → GName → Fml
   lends_first i name = lends_range i (without_first i.now) (first_touched t.BITS (i.now.head + i.now.front)) (end_touched t.BITS (i.now.head + (i.now.front + 1))) name
 
+  -- `lends_first`, `lends_last`, `lends_rest`, `lends_part`, `lends_bits` (`PiecesLending`, `BitsLending`, `HalvesLending`): as before
+  -- but for what was left in the lent elements, and without that number.
   abbrev pub lends_last : MutBor (IterMut T.Denot O.Denot t o) → GName → Fml
   lends_last i name = lends_range i (without_last i.now) (first_touched t.BITS (i.now.head + (i.now.back - 1))) (end_touched t.BITS (i.now.head + (i.now.back - 1 + 1))) name
 

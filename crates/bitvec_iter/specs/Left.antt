@@ -17,6 +17,7 @@ module _ {T O C : Type 0} {t : Store T} {o : Order O} {c : Cutting C} where
   abbrev pub walked : Pieces T O C t o c → Seen T
   walked walk = seen walk.view
 
+  -- `walked it`, `index_range it`, `cut_by it`: the view, the indices, the way to cut.
   abbrev pub cut_by : Pieces T O C t o c → C
   cut_by walk = walk.cutting
 
@@ -37,6 +38,7 @@ module _ {T O C : Type 0} {t : Store T} {o : Order O} {c : Cutting C} where
   abbrev pub TakesFirst : Pieces T O C t o c → Option (BitSlice T O t o) → Pieces T O C t o c → Type 0
   TakesFirst before piece after = YieldsFirstBy (seen {t = t} {o = o}) pieces_left before piece after × KeepsView before after
 
+  -- `TakesFirst`, `TakesLast`: what one call does.
   abbrev pub TakesLast : Pieces T O C t o c → Option (BitSlice T O t o) → Pieces T O C t o c → Type 0
   TakesLast before piece after = YieldsLastBy (seen {t = t} {o = o}) pieces_left before piece after × KeepsView before after
 

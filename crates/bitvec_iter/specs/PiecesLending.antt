@@ -35,6 +35,7 @@ module _ {T O C : Type 0} {t : Store T} {o : Order O} {c : Cuts C} where
   abbrev pub passed : PiecesMut T O C t o c → ℕ → PiecesMut T O C t o c
   passed p count = record p { front = p.front + min count (p.back - p.front) }
 
+  -- `passed`, `passed_back`: the walk without its first or last pieces.
   abbrev pub passed_back : PiecesMut T O C t o c → ℕ → PiecesMut T O C t o c
   passed_back p count = record p { back = p.back - min count (p.back - p.front); numbered = omega (arith, p.numbered) }
 
@@ -80,9 +81,13 @@ module _ (T O C : RattleType) {t : Store T.Denot} {o : Order O.Denot} {c : Cuts 
   abbrev pub lends_first : (C.Denot → ℕ → ℕ → Range ℕ) → MutBor (PiecesMut T.Denot O.Denot C.Denot t o c) → GName → Fml
   lends_first place p name = lends_range T O C p (without_first p.now) (place p.now.cutting p.now.len p.now.front) name
 
+  -- `lends_first`, `lends_last`, `lends_rest`, `lends_part`, `lends_bits` (`PiecesLending`, `BitsLending`, `HalvesLending`): as before
+  -- but for what was left in the lent elements, and without that number.
   abbrev pub lends_last : (C.Denot → ℕ → ℕ → Range ℕ) → MutBor (PiecesMut T.Denot O.Denot C.Denot t o c) → GName → Fml
   lends_last place p name = lends_range T O C p (without_last p.now) (place p.now.cutting p.now.len (p.now.back - 1)) name
 
+  -- `lends_first`, `lends_last`, `lends_rest`, `lends_part`, `lends_bits` (`PiecesLending`, `BitsLending`, `HalvesLending`): as before
+  -- but for what was left in the lent elements, and without that number.
   abbrev pub lends_rest : (C.Denot → ℕ → Range ℕ) → MutBor (PiecesMut T.Denot O.Denot C.Denot t o c) → GName → Fml
   lends_rest left_over p name = lends_range T O C p (without_rest p.now) (rest_of left_over (walk_of p.now)) name
 

@@ -13,11 +13,13 @@ use Rattle.bitvec_owned.specs.declared.bit_vec.BitVec.{BitVec}
 module _ {T : Type 0} (b : ℕ) where
   -- a sequence that holds a list anywhere holds its bits where it begins, and the other way round
   module _ (sequence : Seen T) (list : List Bool) (from : ℕ) where
+    -- That a sequence holds a list says that it holds its own bits where it begins, and the other way round.
     pub holds-own : Holds b list from sequence → Holds b sequence.bits sequence.window.start sequence
     holds-own held =
         subst (λ (l : List Bool). Holds b l sequence.window.start sequence) (sym held.bits)
         (subst (λ (n : ℕ). Holds b list n sequence) (sym held.start) held)
 
+    -- That a sequence holds a list says that it holds its own bits where it begins, and the other way round.
     pub own-holds : sequence.bits ≡ list → sequence.window.start ≡ from → Holds b sequence.bits sequence.window.start sequence → Holds b list from sequence
     own-holds bits start held =
         subst (λ (l : List Bool). Holds b l from sequence) bits

@@ -42,6 +42,7 @@ module _ {T : Type 0} (b : ℕ) (at : ℕ → ℕ → ℕ) (value : T → ℕ) (
   pub many : length new ≡ length old
   many = same_length value new old wrote.elements
 
+  -- The bits of a range beside an edit are as before.
   pub bits-written : (shown b at value new start len).bits ≡ list
   bits-written =
       let within = within_memory b at value old start len inside in

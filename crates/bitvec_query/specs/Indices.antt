@@ -18,5 +18,7 @@ module _ {T O W : Type 0} {t : Store T} {o : Order O} {w : Bits W} where
   abbrev pub RunsInOrder : Places T O W t o w → Type 0
   RunsInOrder walk = YieldsInOrder (YieldsFirst remaining_indices) remaining_indices
 
+  -- `YieldsBits`, `YieldsPieces`, `RunsInOrder`, `RunsInReverse`: calls of `next` and `next_back` give what is left, in order and from
+  -- the end.
   abbrev pub RunsInReverse : Places T O W t o w → Type 0
   RunsInReverse walk = YieldsInReverse (YieldsLast remaining_indices) remaining_indices

@@ -12,6 +12,7 @@ rest_loads b window rest = touched_count b (window.start + rest.front) (rest.bac
 
 -- a call that made `left` of the rest only read: it loaded what `left` doesn't touch any more, and for a place that was given one element more
 module _ {E C : Type 0} (access : Access C E) where
+  -- `LoadsPassed` (`Loads`): a call loads what the rest loses of touched elements, and one more where it gives a place.
   pub record LoadsPassed (b : ℕ) (window : Window) (rest left : Rest) (given : Option ℕ) (old new : C) : Type 0 where
     pub numbers : access.numbers new ≡ access.numbers old
     pub borrow : access.borrow new ≡ access.borrow old

@@ -30,6 +30,8 @@ abbrev pub right_refusal : List Bool → Window → Option Refusal
 right_refusal right window = unless (lies_in window (length right)) Refusal.Right
 
 -- ---- the commands
+-- `op_row right m op` (`Commands`): all that a command means on `m` bits: its refusal, its cost by place, its reply and new list by the
+-- list.
 abbrev pub op_row : List Bool → ℕ → Op → CommandRow
 op_row right m (Get i) = asks (index_refusal m i) (λ list. Bit (slice_index_or list i false)) (accesses 1 0)
 op_row right m (Set i bit) = edits (index_refusal m i) (λ list. slice_set list i bit) (accesses 1 1)

@@ -20,6 +20,7 @@ in_first-total bit (segment ∷ rest) =
     let before = sum_by-cons length segment rest in
     omega arith
 
+-- Lengths and bounds that these stand on.
 pub segments-total : (b s : ℕ) (list : List Bool) → sum_by length (segments b s list) ≡ length list
 unfolding segments
 segments-total b s [] = refl
@@ -32,6 +33,7 @@ segments-total b s (bit ∷ list) =
 
 -- ---- a number has as many bits as its list
 
+-- Lengths and bounds that these stand on.
 pub joined_below : (v w j k : ℕ) → v < 2 ^ j → w < 2 ^ k → v * 2 ^ k + w < 2 ^ (k + j)
 joined_below v w j k high low =
     let order = mul-le-mul_left (2 ^ k) high in
@@ -48,12 +50,14 @@ end_number-below true high (segment ∷ rest) =
     let total : sum_by length (segment ∷ rest) ≡ sum_by length rest + length segment = sum_by-cons length segment rest ∙ omega arith in
     rw total (joined_below _ _ (length segment) (sum_by length rest) (segment_number-below high segment) (end_number-below true high rest))
 
+-- A loaded number is below `2^len`.
 pub loaded-below : (big high : Bool) (b s : ℕ) (list : List Bool) → loaded big high b s list < 2 ^ length list
 unfolding loaded
 loaded-below big high b s list = let total = segments-total b s list in rw (← total) (end_number-below big high (segments b s list))
 
 -- ---- the first segment and the rest
 
+-- No bits have the number 0, and a store in none leaves none.
 pub loaded-none : (big high : Bool) (b s : ℕ) → loaded big high b s [] ≡ 0
 unfolding loaded end_number segments
 loaded-none big high b s = refl
@@ -62,12 +66,14 @@ loaded-none big high b s = refl
 abbrev pub lower_bits : Bool → ℕ → ℕ → ℕ
 lower_bits big before behind = if big then behind else before
 
+-- A number by its bits in the first element and those behind.
 pub end_number-first : (big high : Bool) (segment : List Bool) (rest : List (List Bool))
     → end_number big high (segment ∷ rest) ≡ segment_number high segment * 2 ^ lower_bits big 0 (sum_by length rest) + end_number big high rest * 2 ^ lower_bits big (length segment) 0
 unfolding end_number
 end_number-first true high segment rest = omega arith
 end_number-first false high segment rest = omega arith
 
+-- A number by its bits in the first element and those behind.
 pub loaded-first : (big high : Bool) (b s : ℕ) (list : List Bool) (k : ℕ) → 0 < b → 0 < length list → k ≡ first_len b s (length list)
     → loaded big high b s list ≡ segment_number high (take k list) * 2 ^ lower_bits big 0 (length list - k) + loaded big high b (s + k) (drop k list) * 2 ^ lower_bits big k 0
 unfolding loaded
@@ -118,14 +124,18 @@ loaded-phase big high b s t list same = ap (end_number big high) (segments-phase
 
 -- ---- from either end
 
+-- A loaded number is below `2^len`.
 pub loaded_le-below : (high : Bool) (b s : ℕ) (list : List Bool) → loaded_le high b s list < 2 ^ length list
 loaded_le-below = loaded-below false
 
+-- A loaded number is below `2^len`.
 pub loaded_be-below : (high : Bool) (b s : ℕ) (list : List Bool) → loaded_be high b s list < 2 ^ length list
 loaded_be-below = loaded-below true
 
+-- Of the start only its index in its element counts.
 pub loaded_le-phase : (high : Bool) (b s t : ℕ) (list : List Bool) → s % b ≡ t % b → loaded_le high b s list ≡ loaded_le high b t list
 loaded_le-phase = loaded-phase false
 
+-- Of the start only its index in its element counts.
 pub loaded_be-phase : (high : Bool) (b s t : ℕ) (list : List Bool) → s % b ≡ t % b → loaded_be high b s list ≡ loaded_be high b t list
 loaded_be-phase = loaded-phase true

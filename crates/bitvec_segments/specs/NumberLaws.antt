@@ -79,6 +79,7 @@ bit_numbers-permute : (high : Bool) (k : ℕ) → Permutes k (bit_number high k)
 bit_numbers-permute true k = record { below = λ i below. omega arith; apart = λ i j first second same. omega arith }
 bit_numbers-permute false k = record { below = λ i below. below; apart = λ i j first second same. same }
 
+-- The place of a bit in a number of n bits is below n.
 pub bit_number-below : (high : Bool) (k i : ℕ) → i < k → bit_number high k i < k
 bit_number-below high k i below = (bit_numbers-permute high k).below i below
 

@@ -34,6 +34,7 @@ segment_bits high k v = element_bits k (bit_number high) v
 
 -- ---- the number of many: from the big end the first one is the highest, from the little end the lowest
 
+-- `end_number big high segments`: the first segment is highest where `big` holds, and else lowest.
 unfoldable pub end_number : Bool → Bool → List (List Bool) → ℕ
 end_number big high [] = 0
 end_number false high (segment ∷ rest) = end_number false high rest * 2 ^ length segment + segment_number high segment
@@ -51,9 +52,11 @@ end_bits true high v (segment ∷ rest) = segment_bits high (length segment) (v 
 unfoldable pub loaded : Bool → Bool → ℕ → ℕ → List Bool → ℕ
 loaded big high b s list = end_number big high (segments b s list)
 
+-- `loaded_le high b s list`, `loaded_be high b s list`: that of a list at a place.
 abbrev pub loaded_le : Bool → ℕ → ℕ → List Bool → ℕ
 loaded_le high b s list = loaded false high b s list
 
+-- `loaded_le high b s list`, `loaded_be high b s list`: that of a list at a place.
 abbrev pub loaded_be : Bool → ℕ → ℕ → List Bool → ℕ
 loaded_be high b s list = loaded true high b s list
 
@@ -61,8 +64,10 @@ loaded_be high b s list = loaded true high b s list
 unfoldable pub stored : Bool → Bool → ℕ → ℕ → ℕ → List Bool → List Bool
 stored big high b s v list = end_bits big high v (segments b s list)
 
+-- `stored_le high b s v list`, `stored_be high b s v list`: the list that a store of `v` leaves.
 abbrev pub stored_le : Bool → ℕ → ℕ → ℕ → List Bool → List Bool
 stored_le high b s v list = stored false high b s v list
 
+-- `stored_le high b s v list`, `stored_be high b s v list`: the list that a store of `v` leaves.
 abbrev pub stored_be : Bool → ℕ → ℕ → ℕ → List Bool → List Bool
 stored_be high b s v list = stored true high b s v list

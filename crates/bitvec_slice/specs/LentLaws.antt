@@ -21,12 +21,15 @@ use Rattle.bitvec_slice.specs.declared.view_mut.BitSliceMut.{BitSliceMut}
 pub lends-some : {X : Type 0} (end_as : ℕ → ℕ → X) (has : Bool) (first last start end : ℕ) → has ≡ true → first ≡ start → last ≡ end → end_as first last ≡ end_as (if has then start else 0) (if has then end else 0)
 lends-some end_as has first last start end is first_is last_is = rw (is, first_is, last_is) refl
 
+-- What a lender ends as, and which of two values stands, by whether there is a piece.
 pub lends-none : {X : Type 0} (end_as : ℕ → ℕ → X) (has : Bool) (start end : ℕ) → has ≡ false → end_as 0 0 ≡ end_as (if has then start else 0) (if has then end else 0)
 lends-none end_as has start end is = rw is refl
 
+-- What a lender ends as, and which of two values stands, by whether there is a piece.
 pub is-some : {X : Type 0} (has : Bool) (some none : X) → has ≡ true → some ≡ (if has then some else none)
 is-some has some none is = rw is refl
 
+-- What a lender ends as, and which of two values stands, by whether there is a piece.
 pub is-none : {X : Type 0} (has : Bool) (some none : X) → has ≡ false → none ≡ (if has then some else none)
 is-none has some none is = rw is refl
 

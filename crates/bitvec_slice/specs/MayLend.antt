@@ -16,6 +16,7 @@ use Rattle.bitvec_slice.specs.declared.view_mut.BitSliceMut.{BitSliceMut}
 abbrev pub is_lent : {P : Type 0} → Lent P → Bool
 is_lent l = l.has
 
+-- `is_lent lent` and `piece_of lent` of a `Lent`: whether something was lent, and what.
 abbrev pub piece_of : {P : Type 0} → Lent P → P
 piece_of l = l.piece
 

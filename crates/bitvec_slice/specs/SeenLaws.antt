@@ -15,6 +15,7 @@ use Rattle.bitvec_slice.specs.Touched.{touched_elements}
 use Rattle.bitvec_slice.specs.TouchedLaws.{touched-bits}
 
 module _ {T : Type 0} (b : ℕ) (at : ℕ → ℕ → ℕ) (value : T → ℕ) where
+  -- Elements have `BITS` bits each.
   pub length-memory : (elements : List T) → length (memory_bits b at (map value elements)) ≡ b * length elements
   length-memory elements = length-memory_bits b at (map value elements) ∙ ap (λ (n : ℕ). b * n) (length-map elements value)
 
@@ -25,6 +26,7 @@ module _ {T : Type 0} (b : ℕ) (at : ℕ → ℕ → ℕ) (value : T → ℕ) w
       let long = length-memory elements in
       rw is (record { bits = range-all (memory_bits b at (map value elements)) (0 + n) (omega arith); elements = refl; memory = refl; start = refl; len = all })
 
+  -- Which view is one of all bits, of none, of a range.
   pub no_view : (view : Seen T) → IsWhole b at value [] view → IsEmpty view
   no_view view is =
       let none : memory_bits b at [] ≡ [] = nil_from_length _ (length-memory_bits b at [] ∙ omega arith) in
@@ -40,14 +42,17 @@ module _ {T : Type 0} (b : ℕ) (at : ℕ → ℕ → ℕ) (value : T → ℕ) w
       sym (rw (covers.start) (range-all (memory_bits b at (map value elements)) (0 + len) (omega arith)))
 
   module _ (elements : List T) (start len : ℕ) (inside : start + len ≤ b * length elements) where
+    -- A view's window lies in the bits of its elements.
     pub within_memory : IsWithin (shown b at value elements start len).window (length (memory_bits b at (map value elements)))
     within_memory = let long = length-memory elements in record { start = omega arith; len = omega arith }
 
+    -- A view's window lies in the bits of its elements.
     pub has_window : b * length elements ≤ max_bits → HasWindow b (map value elements) (shown b at value elements start len).window
     has_window bounded =
         let product = ap (λ (n : ℕ). b * n) (length-map elements value) in
         record { fits = omega arith; within = record { start = omega arith; len = omega arith } }
 
+    -- A view has as many bits as its window.
     pub length_bits : length (shown b at value elements start len).bits ≡ len
     length_bits = length-window (memory_bits b at (map value elements)) (shown b at value elements start len).window within_memory
 

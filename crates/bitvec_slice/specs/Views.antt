@@ -8,6 +8,7 @@ use Rattle.bitvec_slice.specs.declared.view.BitSlice.{BitSlice}
 use Rattle.bitvec_slice.specs.declared.view_mut.BitSliceMut.{BitSliceMut}
 
 module _ {T O : Type 0} {t : Store T} {o : Order O} where
+  -- `seen v` of a shared view, `seen_mut v` of a writable one (`Views`).
   abbrev pub seen : BitSlice T O t o → Seen T
   seen v = shown t.BITS o.at t.value v.elements.now v.head v.len
 

@@ -18,6 +18,7 @@ module _ {T O : Type 0} {t : Store T} {o : Order O} where
   abbrev pub walked : Iter T O t o → Seen T
   walked it = seen it.view
 
+  -- `walked it`, `index_range it`, `cut_by it`: the view, the indices, the way to cut.
   abbrev pub index_range : Iter T O t o → Range ℕ
   index_range it = it.indices
 
@@ -37,6 +38,7 @@ module _ {T O : Type 0} {t : Store T} {o : Order O} where
       let range = index_range before in
       YieldsFirstBy (bit_of_ref {T = T} {O = O}) remaining_bits before bit after × Walks after (walked before) (min (range.start + 1) range.end) range.end
 
+  -- `TakesFirst`, `TakesLast`: what one call does.
   abbrev pub TakesLast : Iter T O t o → Option (BitRef T O) → Iter T O t o → Type 0
   TakesLast before bit after =
       let range = index_range before in

@@ -32,6 +32,7 @@ module _ {P : Type 0} {g : Mut P (ℕ × (Bor Bool × Unit {0})) Bool} where
     pub may_ask-now : (index : ℕ) (shown : Bor Bool) → index < n → Takes g pred (index, (shown, tt))
     may_ask-now index shown below = (may.at ((index, shown.now) ∷ []) (omega (arith, left)) below).0 shown refl
 
+    -- A predicate that may be asked may be, and afterwards once less.
     pub may_ask-next : {index : ℕ} {bit answer : Bool} {next : P} → index < n → Asks g pred index bit answer next → MayAskTimes g n (times - 1) next
     may_ask-next {index} {bit} below asks = record { at = λ more few. (may.at ((index, bit) ∷ more) (omega (arith, left, few)) below).1 _ _ asks }
 
@@ -44,6 +45,7 @@ module _ {P : Type 0} {g : Mut P (ℕ × (Bor Bool × Unit {0})) Bool} where
   pub may_ask_always : {n times : ℕ} {pred : P} → always_mut g pred → MayAskTimes g n times pred
   may_ask_always {n} {times} {pred} always = record { at = λ questions few. always_each g n pred questions always }
 
+  -- Of either.
   pub may_ask_either : {n times : ℕ} {pred : P} → always_mut g pred ⊎ MayAskTimes g n times pred → MayAskTimes g n times pred
   may_ask_either (inl always) = may_ask_always always
   may_ask_either (inr may) = may
@@ -55,9 +57,11 @@ module _ {P : Type 0} {g : Mut P (ℕ × (Bor Bool × Unit {0})) Bool} where
 
   -- the askings that go on with a yes, or with a no and the others
   module _ (bits : List Bool) {pred next : P} {index : ℕ} (indices more : List ℕ) (are : indices ≡ index ∷ more) where
+    -- It was asked until it said yes.
     pub asked-yes : Asks g pred index (slice_index_or bits index false) true next → Asked g bits pred indices (Some index) next
     asked-yes asks = rw are (true, next, asks, (refl, refl))
 
+    -- Once more.
     pub asked-no : (found : Option ℕ) (last : P) → Asks g pred index (slice_index_or bits index false) false next → Asked g bits next more found last
         → Asked g bits pred indices found last
     asked-no found last asks rest = rw are (false, next, asks, rest)

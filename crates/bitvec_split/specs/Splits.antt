@@ -18,6 +18,8 @@ pub record Limited (S : Type 0) : Type 0 where
   pub left : S
   pub count : ℕ
 
+-- `Left`, `LeftIn`, `LimitedSplit`, `LimitedSplitIn` (`Splits`, `Lent`): the bits that no piece has, whether the last piece was given,
+-- the predicate as it is now; how many pieces may still come.
 abbrev pub LimitedSplit : (T P : Type 0) → Type 0
 LimitedSplit T P = Limited (Left T P)
 
@@ -148,6 +150,8 @@ module _ {T P : Type 0} (b : ℕ) (g : Mut P (ℕ × (Bor Bool × Unit {0})) Boo
   abbrev pub SplitNext : Bool → Bool → Left T P → Option (Seen T) → Left T P → Type 0
   SplitNext inclusive reversed s result t = SplitStep inclusive (row_of inclusive reversed s.rest.window.len) s result t
 
+  -- `SplitNext`, `SplitNextBack`, `LimitedNext`, and with `In` of ranges: a finished split gives nothing and asks nothing; any other goes
+  -- by its rule.
   abbrev pub SplitNextBack : Bool → Bool → Left T P → Option (Seen T) → Left T P → Type 0
   SplitNextBack inclusive reversed s result t = SplitStep inclusive (row_of inclusive (not reversed) s.rest.window.len) s result t
 

@@ -9,6 +9,7 @@ use Rattle.bitvec_base.specs.Window.{write_at}
 use Rattle.bitvec_within.specs.Combined.{combined_within}
 
 module _ (f : Bool → Bool → Bool) (from to dest : ℕ) (list : List Bool) where
+  -- The list is as long as before.
   pub length-combined_within : from ≤ to → dest + (to - from) ≤ length list → length (combined_within f from to dest list) ≡ length list
   unfolding combined_within write_at
   length-combined_within order room = grind (arith, places, length-combined)
@@ -18,11 +19,13 @@ module _ (f : Bool → Bool → Bool) (from to dest : ℕ) (list : List Bool) wh
   unfolding combined_within write_at
   get-combined_within_below k d order room below = grind (arith, places)
 
+  -- A bit that is written is `f` of its old value and of the old bit at its index in the range.
   pub get-combined_within_inside : (k : ℕ) (d : Bool) → from ≤ to → to ≤ length list → dest + (to - from) ≤ length list → dest ≤ k → k < dest + (to - from)
       → slice_index_or (combined_within f from to dest list) k d ≡ f (slice_index_or list k false) (slice_index_or list (from + (k - dest)) false)
   unfolding combined_within write_at
   get-combined_within_inside k d order source room low high = grind (arith, places, get-combined, length-combined)
 
+  -- A bit before `dest`, and one behind what is written, is as before.
   pub get-combined_within_above : (k : ℕ) (d : Bool) → from ≤ to → dest + (to - from) ≤ length list → dest + (to - from) ≤ k → slice_index_or (combined_within f from to dest list) k d ≡ slice_index_or list k d
   unfolding combined_within write_at
   get-combined_within_above k d order room above = grind (arith, places, length-combined)
@@ -33,10 +36,12 @@ module _ (f : Bool → Bool → Bool) (from to dest : ℕ) (list : List Bool) wh
   unfolding combined_within write_at
   range-combined_within order room = same_lists _ _ (grind (arith, places, length-combined)) (λ k d inside. grind (arith, places, length-combined))
 
+  -- A range before it, and one behind it, is as before.
   pub range-combined_within_before : (a e : ℕ) → from ≤ to → dest + (to - from) ≤ length list → e ≤ dest → slice_range (combined_within f from to dest list) a e ≡ slice_range list a e
   unfolding combined_within write_at
   range-combined_within_before a e order room before = same_lists _ _ (grind (arith, places, length-combined)) (λ k d inside. grind (arith, places, length-combined))
 
+  -- A range before it, and one behind it, is as before.
   pub range-combined_within_after : (a e : ℕ) → from ≤ to → dest + (to - from) ≤ length list → dest + (to - from) ≤ a → e ≤ length list → slice_range (combined_within f from to dest list) a e ≡ slice_range list a e
   unfolding combined_within write_at
   range-combined_within_after a e order room after end = same_lists _ _ (grind (arith, places, length-combined)) (λ k d inside. grind (arith, places, length-combined))

@@ -6,6 +6,7 @@ use Rattle.bitvec_base.specs.Window.{write_at}
 use Rattle.bitvec_within.specs.Swaps.{LieApart, swapped_within}
 
 module _ {X : Type 0} (from to dest : ℕ) (list : List X) (order : from ≤ to) (source : to ≤ length list) (room : dest + (to - from) ≤ length list) where
+  -- Such a list is as long.
   pub length-swapped : length (swapped_within from to dest list) ≡ length list
   unfolding swapped_within write_at
   length-swapped = search (rules, places)
@@ -15,10 +16,12 @@ module _ {X : Type 0} (from to dest : ℕ) (list : List X) (order : from ≤ to)
   unfolding swapped_within write_at
   get-swapped_front k d apart low high = grind (arith, places)
 
+  -- The first range has the values from `dest` on, and the one at `dest` those of the first; the rest is as before.
   pub get-swapped_back : (k : ℕ) (d : X) → dest ≤ k → k < dest + (to - from) → slice_index_or (swapped_within from to dest list) k d ≡ slice_index_or list (from + (k - dest)) d
   unfolding swapped_within write_at
   get-swapped_back k d low high = grind (arith, places)
 
+  -- The first range has the values from `dest` on, and the one at `dest` those of the first; the rest is as before.
   pub get-swapped_outside : (k : ℕ) (d : X) → (k < from) ⊎ (to ≤ k) → (k < dest) ⊎ (dest + (to - from) ≤ k) → slice_index_or (swapped_within from to dest list) k d ≡ slice_index_or list k d
   unfolding swapped_within write_at
   get-swapped_outside k d front back = grind (arith, places)
