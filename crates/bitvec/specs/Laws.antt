@@ -25,7 +25,7 @@ use Rattle.bitvec_segments.specs.StoreLaws.{length-stored, loaded_be-determines,
 use Rattle.bitvec_owned.specs.AroundLaws.{around-then, around-written, holds-then}
 use Rattle.bitvec_owned.specs.SequenceLaws.{begins-more, begins-own, get-insert_at, get-insert_before, get-insert_behind, get-remove_before, get-remove_behind, get-remove_range_before, get-remove_range_behind, get-swap_remove_at, get-swap_remove_other, insert-remove, length-inserted_one, length-remove_range, length-removed_one, length-swap_remove, remove-insert}
 use Rattle.bitvec_owned.specs.WritesLaws.{length-owned, owned-room}
-use Rattle.bitvec_split.specs.AskedLaws.{may_ask_always}
+use Rattle.bitvec_domain.specs.PredicatesLaws.{may_ask_always}
 use Rattle.bitvec_closures.specs.WritesLaws.{written-around, written-none, written-then}
 use Rattle.bitvec.specs.ComposedLaws.{array-none, array-then, owned-both, owned-none, owned-then}
 use Rattle.bitvec_in_place.specs.ChangesLaws.{changes-none, changes-then, number-unchanged}

@@ -111,8 +111,8 @@ pub use Rattle.bitvec_slice.specs.Touched
 pub use Rattle.bitvec_slice.specs.Views
 pub use Rattle.bitvec_slice.specs.Walks as BitWalks
 pub use Rattle.bitvec_slice.specs.Writes
-pub use Rattle.bitvec_split.specs.Asked as SplitAsked
-pub use Rattle.bitvec_split.specs.AskedLaws as SplitAskedLaws
+pub use Rattle.bitvec_domain.specs.Predicates as SplitAsked
+pub use Rattle.bitvec_domain.specs.PredicatesLaws as SplitAskedLaws
 pub use Rattle.bitvec_split.specs.FoundLaws as SplitFoundLaws
 pub use Rattle.bitvec_split.specs.Lent as SplitLent
 pub use Rattle.bitvec_split.specs.LentViews as SplitLentViews

@@ -9,7 +9,7 @@ use Rattle.std.proofs.Common.{arith, inl, inr, sym, subst, ◌∙◌, ap, ⊎_el
 use Rattle.std.proofs.lemmas.Bool.{cases_lt}
 use Rattle.bitvec_base.specs.WriteLaws.{get-slice_range}
 use Rattle.bitvec_slice.specs.Seen.{Seen}
-use Rattle.bitvec_split.specs.Asked.{Asked, Asks, upward}
+use Rattle.bitvec_domain.specs.Predicates.{Asked, Asks, upward}
 use Rattle.bitvec_split.specs.Lent.{GivesAllIn, GivesRangeIn, LeftIn, SplitNextIn, unsplit_in}
 use Rattle.bitvec_closures.specs.SplitEdits.{GivesInTurn}
 

@@ -2,7 +2,7 @@
 ghost use Rattle.std.specs.Prelude.{◌-◌, ◌<◌, IfSome, false, true};
 ghost use Rattle.bitvec_cutting.specs.Cutting.{cut};
 ghost use Rattle.bitvec_slice.specs.Indices.{HasRange};
-ghost use Rattle.bitvec_split.specs.Asked.{Asked, MayAsk};
+ghost use Rattle.bitvec_domain.specs.Predicates.{Asked, MayAsk};
 ghost use Rattle.bitvec_split.specs.Lent.{LimitedNextIn, MayGoOnIn, SplitNextIn, unsplit_in};
 ghost use Rattle.bitvec_split.specs.Splits.{asked_of, left_of_row, row_of};
 ghost use Rattle.bitvec_closures.specs.ToSplit.{IsLeftOf, TakesFrom, left_at, limited_at};

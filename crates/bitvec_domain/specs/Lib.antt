@@ -13,6 +13,8 @@ pub mod ListingLaws
 pub mod Middle
 pub mod PartLender
 pub mod Parts
+pub mod Predicates
+pub mod PredicatesLaws
 pub mod References
 pub mod Refill
 pub mod RefillLaws

@@ -9,7 +9,7 @@ use Rattle.bitvec_base.specs.Memory.{HasWindow, Writes, list_in}
 use Rattle.bitvec_base.specs.WriteLaws.{drop-write_at, set-is_write}
 use Rattle.bitvec_base.specs.WritesLaws.{HasWindow-kept, Writes-holds, Writes-is, Writes-nothing, Writes-then, length-list}
 use Rattle.bitvec_base.specs.declared.window.Window.{Window}
-use Rattle.bitvec_split.specs.Asked.{Asks}
+use Rattle.bitvec_domain.specs.Predicates.{Asks}
 use Rattle.bitvec_owned.specs.Retained.{AsksNext}
 
 -- ---- lists

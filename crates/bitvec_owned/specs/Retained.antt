@@ -3,7 +3,7 @@ use Rattle.std.specs.Prelude.{◌≡◌, ℕ, ◌+◌, Bool, List}
 use Rattle.std.specs.Borrow.{Bor}
 use Rattle.std.specs.Fn.{Mut}
 use Rattle.std.specs.List.Retain.{IsFiltered}
-use Rattle.bitvec_split.specs.Asked.{Asks}
+use Rattle.bitvec_domain.specs.Predicates.{Asks}
 
 module _ {P : Type 0} (g : Mut P (ℕ × (Bor Bool × Unit {0})) Bool) where
   -- one question: the index and the predicate before it, the bit, the answer, and the index and the predicate after it

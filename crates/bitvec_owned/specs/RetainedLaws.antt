@@ -5,7 +5,7 @@ use Rattle.std.specs.Fn.{Mut}
 use Rattle.std.specs.List.{items_where_true}
 use Rattle.std.specs.List.Retain.{ReturnsInTurn}
 use Rattle.std.proofs.Common.{◌∙◌, ap, arith, subst}
-use Rattle.bitvec_split.specs.Asked.{Asks}
+use Rattle.bitvec_domain.specs.Predicates.{Asks}
 use Rattle.bitvec_owned.specs.KeptBy.{kept_by}
 use Rattle.bitvec_owned.specs.Retained.{AsksNext, Retains}
 

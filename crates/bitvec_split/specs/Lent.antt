@@ -7,7 +7,7 @@ use Rattle.std.specs.Fn.{Mut, always_mut}
 use Rattle.std.specs.declared.ops.Range.{Range}
 use Rattle.bitvec_slice.specs.Indices.{HasRange}
 use Rattle.bitvec_slice.specs.Seen.{IsRangeOf, Seen}
-use Rattle.bitvec_split.specs.Asked.{MayAsk}
+use Rattle.bitvec_domain.specs.Predicates.{MayAsk}
 use Rattle.bitvec_split.specs.Splits.{Limited, LimitedBy, RestBy, SplitRule, StepBy, row_of}
 
 -- the view, the indices `from` up to `to` of the bits that no piece has yet, and the rest as in a shared split

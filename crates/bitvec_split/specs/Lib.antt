@@ -1,5 +1,3 @@
-pub mod Asked
-pub mod AskedLaws
 pub mod SplitStates
 pub mod FoundLaws
 pub mod Lent

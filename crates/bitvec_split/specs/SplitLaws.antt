@@ -4,8 +4,8 @@ use Rattle.std.specs.Borrow.{Bor}
 use Rattle.std.specs.Fn.{Mut}
 use Rattle.std.proofs.Common.{arith, ◌∙◌, ap, subst}
 use Rattle.bitvec_slice.specs.Seen.{Seen}
-use Rattle.bitvec_split.specs.Asked.{Asks, upward}
-use Rattle.bitvec_split.specs.AskedLaws.{asked_first}
+use Rattle.bitvec_domain.specs.Predicates.{Asks, upward}
+use Rattle.bitvec_domain.specs.PredicatesLaws.{asked_first}
 use Rattle.bitvec_split.specs.Splits.{GivesAll, GivesRange, Left, SplitNext}
 
 module _ {T P : Type 0} (b : ℕ) (s t : Left T P) (piece : Seen T) where

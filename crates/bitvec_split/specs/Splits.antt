@@ -5,7 +5,7 @@ use Rattle.std.specs.Borrow.{Bor}
 use Rattle.std.specs.Fn.{Mut, always_mut}
 use Rattle.std.specs.declared.ops.Range.{Range}
 use Rattle.bitvec_slice.specs.Seen.{IsRangeOf, Seen}
-use Rattle.bitvec_split.specs.Asked.{Asked, MayAsk, downward, upward}
+use Rattle.bitvec_domain.specs.Predicates.{Asked, MayAsk, downward, upward}
 
 -- the bits that no piece has yet, whether the last piece was given, and the predicate as it is now
 pub record Left (T P : Type 0) : Type 0 where

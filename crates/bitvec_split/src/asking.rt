@@ -1,7 +1,7 @@
 //! A predicate is asked about the bits of a view, in turn, until it says yes.
 ghost use Rattle.std.specs.Prelude.{◌+◌, ◌-◌, ◌<◌, ◌≤◌, IfSome};
 ghost use Rattle.bitvec_slice.specs.Views.{seen};
-ghost use Rattle.bitvec_split.specs.Asked.{Asked, MayAsk, MayAskTimes, downward, upward};
+ghost use Rattle.bitvec_domain.specs.Predicates.{Asked, MayAsk, MayAskTimes, downward, upward};
 
 use bitvec_base::BitOrder;
 use bitvec_slice::BitSlice;

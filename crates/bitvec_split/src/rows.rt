@@ -1,7 +1,7 @@
 //! The table of the splits: what a call asks about, and what it gives and keeps.
 ghost use Rattle.std.specs.Prelude.{◌<◌, IfSome};
 ghost use Rattle.bitvec_slice.specs.Views.{seen};
-ghost use Rattle.bitvec_split.specs.Asked.{Asked, MayAsk};
+ghost use Rattle.bitvec_domain.specs.Predicates.{Asked, MayAsk};
 ghost use Rattle.bitvec_split.specs.Splits.{IsCutBy, LieBeside, asked_of, left_of_row, row_of};
 
 use crate::SplitKind;

@@ -4,7 +4,7 @@ ghost use Rattle.std.specs.Fn.{always_mut};
 ghost use Rattle.bitvec_base.specs.Memory.{HasWindow, Writes, list_in};
 ghost use Rattle.bitvec_owned.specs.Copies.{KeepsAround};
 ghost use Rattle.bitvec_owned.specs.Retained.{Retains};
-ghost use Rattle.bitvec_split.specs.Asked.{MayAsk};
+ghost use Rattle.bitvec_domain.specs.Predicates.{MayAsk};
 ghost use Rattle.bitvec_owned.specs.Owned.{bit_capacity, owned};
 
 use crate::BitVec;

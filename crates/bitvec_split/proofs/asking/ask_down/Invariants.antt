@@ -1,6 +1,6 @@
 use Rattle.std.proofs.Common.{ℕ, ◌-◌, Option}
 use Rattle.bitvec_slice.specs.Views.{seen}
-use Rattle.bitvec_split.specs.Asked.{Asked, MayAskTimes, downward}
+use Rattle.bitvec_domain.specs.Predicates.{Asked, MayAskTimes, downward}
 use Rattle.bitvec_split.proofs.asking.ask_down.Given as goal
 
 -- what is asked from here on completes what was asked

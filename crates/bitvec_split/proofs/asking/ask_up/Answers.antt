@@ -1,6 +1,6 @@
 use Rattle.std.proofs.Common.{arith}
 use Rattle.bitvec_slice.specs.Views.{seen}
-use Rattle.bitvec_split.specs.AskedLaws.{asked-no, asked-yes, may_ask-next, may_ask-now, may_ask_of_fewer, upward-from}
+use Rattle.bitvec_domain.specs.PredicatesLaws.{asked-no, asked-yes, may_ask-next, may_ask-now, may_ask_of_fewer, upward-from}
 use Rattle.bitvec_split.proofs.asking.ask_up.Goals as goal
 
 pub pred-requires : goal.pred-requires

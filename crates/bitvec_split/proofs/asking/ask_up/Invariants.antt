@@ -1,7 +1,7 @@
 use Rattle.std.proofs.Common.{ℕ, ◌-◌, Option}
 use Rattle.std.specs.List.{range_with_len}
 use Rattle.bitvec_slice.specs.Views.{seen}
-use Rattle.bitvec_split.specs.Asked.{Asked, MayAskTimes, upward}
+use Rattle.bitvec_domain.specs.Predicates.{Asked, MayAskTimes, upward}
 use Rattle.bitvec_split.proofs.asking.ask_up.Given as goal
 
 -- what is asked from here on completes what was asked

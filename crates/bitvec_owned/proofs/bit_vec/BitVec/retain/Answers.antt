@@ -1,6 +1,6 @@
 use Rattle.std.proofs.Common.{◌∙◌, ap, arith, length, length-take, refl, subst, sym, take}
 use Rattle.bitvec_store.specs.WidthLaws.{width_some}
-use Rattle.bitvec_split.specs.AskedLaws.{may_ask_either}
+use Rattle.bitvec_domain.specs.PredicatesLaws.{may_ask_either}
 use Rattle.bitvec_owned.specs.AroundLaws.{around-then, around-written}
 use Rattle.bitvec_owned.specs.Lending.{with_elements}
 use Rattle.bitvec_owned.specs.Owned.{owned}

@@ -1,7 +1,7 @@
 use Rattle.std.proofs.Common.{◌+◌, arith, map, refl}
 use Rattle.bitvec_base.specs.Memory.{list_in}
-use Rattle.bitvec_split.specs.Asked.{Asks}
-use Rattle.bitvec_split.specs.AskedLaws.{may_ask-next, may_ask-now, may_ask_of_fewer}
+use Rattle.bitvec_domain.specs.Predicates.{Asks}
+use Rattle.bitvec_domain.specs.PredicatesLaws.{may_ask-next, may_ask-now, may_ask_of_fewer}
 use Rattle.bitvec_owned.proofs.Kept.{Moved, moved-all, moved-no, moved-none, moved-window, moved-yes}
 use Rattle.bitvec_owned.proofs.growing.retaining.move_kept.Goals as goal
 use Rattle.bitvec_owned.proofs.growing.retaining.move_kept.Goals.{then-keeps, else-keeps}

@@ -1,5 +1,5 @@
 use Rattle.std.proofs.Common.{◌-◌, map}
-use Rattle.bitvec_split.specs.Asked.{MayAskTimes}
+use Rattle.bitvec_domain.specs.Predicates.{MayAskTimes}
 use Rattle.bitvec_owned.proofs.Kept.{Moved}
 use Rattle.bitvec_owned.proofs.growing.retaining.move_kept.Given as goal
 

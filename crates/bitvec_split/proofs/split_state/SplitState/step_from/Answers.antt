@@ -1,5 +1,5 @@
 use Rattle.std.proofs.Common.{Some, ◌≡◌, ◌+◌, ◌==◌, ◌&&◌, refl}
-use Rattle.bitvec_split.specs.AskedLaws.{may_ask_unfinished}
+use Rattle.bitvec_domain.specs.PredicatesLaws.{may_ask_unfinished}
 use Rattle.bitvec_split.proofs.SplitStateLaws.{given-range}
 use Rattle.bitvec_split.proofs.split_state.SplitState.step_from.Goals.{then-INCLUSIVE, else-INCLUSIVE}
 use Rattle.bitvec_split.proofs.split_state.SplitState.step_from.Goals as goal

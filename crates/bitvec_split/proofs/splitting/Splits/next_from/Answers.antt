@@ -1,5 +1,5 @@
 use Rattle.std.proofs.Common.{Some, arith, inr, rules}
-use Rattle.bitvec_split.specs.AskedLaws.{may_ask_of_fewer, may_ask_unfinished}
+use Rattle.bitvec_domain.specs.PredicatesLaws.{may_ask_of_fewer, may_ask_unfinished}
 use Rattle.bitvec_split.proofs.SplitStateLaws.{left-kept}
 use Rattle.bitvec_split.proofs.splitting.Splits.next_from.Goals as goal
 

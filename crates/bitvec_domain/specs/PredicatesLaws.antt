@@ -5,7 +5,7 @@ use Rattle.std.specs.Fn.{Mut, Takes, always_mut}
 use Rattle.std.specs.List.{range_with_len}
 use Rattle.std.specs.Bool.{MatchBool}
 use Rattle.std.proofs.Common.{◌⊎◌, arith, ap, cond, find, inl, inr, subst}
-use Rattle.bitvec_split.specs.Asked.{Asked, Asks, MayAskEach, MayAskTimes, downward}
+use Rattle.bitvec_domain.specs.Predicates.{Asked, Asks, MayAskEach, MayAskTimes, downward}
 
 by_answer : (A B : Type 0) (i : ℕ) (found rest : Option ℕ) (answer test : Bool) → answer ≡ test → MatchBool answer ((found ≡ Some i) × A) B → (B → found ≡ rest) → found ≡ cond test (Some i) rest
 by_answer A B i found rest true true is met later = met.0
