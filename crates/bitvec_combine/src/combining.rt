@@ -143,6 +143,6 @@ pub fn combine_zeros<O: BitOrder, C: Cells>(cells: &mut C, window: Window, op: B
 {
     match op {
         BitOp::And => fill::<O, C>(cells, window, false),
-        BitOp::Or | BitOp::Xor => {}
+        BitOp::Or | BitOp::Xor | BitOp::AndNot => {}
     }
 }

@@ -111,6 +111,7 @@ fn combine_any<T: BitStore, O: SliceOrder, const LATER: bool>(
         BitOp::And => combine_parts::<T, O, LATER>(elements, ranges, BitOp::And),
         BitOp::Or => combine_parts::<T, O, LATER>(elements, ranges, BitOp::Or),
         BitOp::Xor => combine_parts::<T, O, LATER>(elements, ranges, BitOp::Xor),
+        BitOp::AndNot => combine_parts::<T, O, LATER>(elements, ranges, BitOp::AndNot),
     }
 }
 
@@ -276,6 +277,7 @@ fn combine_aside<T: BitStore, O: SliceOrder, const HELD: usize>(
         BitOp::And => combine_held::<T, O>(elements, &mut held, ranges, BitOp::And),
         BitOp::Or => combine_held::<T, O>(elements, &mut held, ranges, BitOp::Or),
         BitOp::Xor => combine_held::<T, O>(elements, &mut held, ranges, BitOp::Xor),
+        BitOp::AndNot => combine_held::<T, O>(elements, &mut held, ranges, BitOp::AndNot),
     }
 }
 

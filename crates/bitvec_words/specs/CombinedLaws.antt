@@ -13,7 +13,7 @@ use Rattle.bitvec_words.specs.Elements.{elements_window}
 use Rattle.bitvec_words.specs.FieldLaws.{element_of, list-whole}
 use Rattle.bitvec_words.specs.Operator.{operator}
 use Rattle.bitvec_words.specs.declared.operator.BitOp.{BitOp}
-use Rattle.bitvec_words.specs.declared.operator.BitOp.TheVariants.{And, Or, Xor}
+use Rattle.bitvec_words.specs.declared.operator.BitOp.TheVariants.{And, AndNot, Or, Xor}
 
 -- by the beginnings and the ends of both, where they begin with as many
 pub combined-append : (f : Bool → Bool → Bool) (a b c d : List Bool) → length c ≡ length a → combined f a c ++ combined f b d ≡ combined f (a ++ b) (c ++ d)
@@ -56,8 +56,12 @@ combined-or_zeros list = combined-is (operator Or) list [] list refl (λ k insid
 pub combined-xor_zeros : (list : List Bool) → list ≡ combined (operator Xor) list []
 combined-xor_zeros list = combined-is (operator Xor) list [] list refl (λ k inside. grind (arith, places))
 
-pub combined-kept : (op : BitOp) (list : List Bool) → (op ≡ Or) ⊎ (op ≡ Xor) → list ≡ combined (operator op) list []
-combined-kept op list is = ⊎_elim (λ e. rw e (combined-or_zeros list)) (λ e. rw e (combined-xor_zeros list)) is
+pub combined-and_not_zeros : (list : List Bool) → list ≡ combined (operator AndNot) list []
+combined-and_not_zeros list = combined-is (operator AndNot) list [] list refl (λ k inside. grind (arith, places))
+
+pub combined-kept : (op : BitOp) (list : List Bool) → (op ≡ Or) ⊎ (op ≡ Xor) ⊎ (op ≡ AndNot) → list ≡ combined (operator op) list []
+combined-kept op list is =
+    ⊎_elim (λ e. rw e (combined-or_zeros list)) (λ rest. ⊎_elim (λ e. rw e (combined-xor_zeros list)) (λ e. rw e (combined-and_not_zeros list)) rest) is
 
 -- ---- elements, one after the other
 

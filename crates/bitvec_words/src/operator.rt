@@ -16,6 +16,8 @@ pub enum BitOp {
     Or,
     /// 1 if they differ: `^=` of `bitvec`.
     Xor,
+    /// 1 if the first is and the other isn't: `difference_with` of sets of bits.
+    AndNot,
 }
 
 impl BitOp {
@@ -27,6 +29,7 @@ impl BitOp {
             BitOp::And => bit && other,
             BitOp::Or => bit || other,
             BitOp::Xor => bit != other,
+            BitOp::AndNot => bit && !other,
         }
     }
 
@@ -39,6 +42,7 @@ impl BitOp {
             BitOp::And => element.and(other),
             BitOp::Or => element.or(other),
             BitOp::Xor => element.xor(other),
+            BitOp::AndNot => element.xor(element.and(other)),
         }
     }
 }
