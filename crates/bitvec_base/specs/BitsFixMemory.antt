@@ -19,7 +19,7 @@ use Rattle.bitvec_base.specs.WriteLaws.{length-write_at, range-write_at_before, 
 same_bit : (c d : ℕ) → c < 2 → d < 2 → (c == 1) ≡ (d == 1) → c ≡ d
 same_bit c d hc hd e = grind (arith, nat_tests)
 
--- an element is fixed by its bits
+-- Two numbers below `2 ^ b` whose `b` bits are equal under a lawful order are the same number.
 pub element_bits-fix : (b : ℕ) (at : ℕ → ℕ → ℕ) → Permutes b (at b) → (v w : ℕ) → v < 2 ^ b → w < 2 ^ b → element_bits b at v ≡ element_bits b at w → v ≡ w
 element_bits-fix b at p v w hv hw e =
     same_from_bits_below b v w hv hw (λ place h.
@@ -43,7 +43,7 @@ same_length b at some xs ys same =
     ∙ ap (λ (n : ℕ). n / b) (sym (length-memory_bits b at xs) ∙ same ∙ length-memory_bits b at ys)
     ∙ mul-div_cancel_left (length ys) some
 
--- a memory is fixed by its bits
+-- Two memories of elements of `b` bits that have the same bits under a lawful order are the same memory.
 pub memory_bits-fix : (b : ℕ) (at : ℕ → ℕ → ℕ) → 0 < b → Permutes b (at b) → (xs ys : List ℕ) → FitWidth b xs → FitWidth b ys → memory_bits b at xs ≡ memory_bits b at ys → xs ≡ ys
 memory_bits-fix b at some p xs ys fx fy same =
     let long = same_length b at some xs ys (ap length same) in
@@ -51,7 +51,7 @@ memory_bits-fix b at some p xs ys fx fy same =
     let other : e < length ys = omega arith in
     same_element b at p xs ys e (fx e inside) (fy e other) inside other (ap (λ (l : List Bool). slice_range l (e * b) (e * b + b)) same))
 
--- an element that a write of bits leaves out keeps its number
+-- An element keeps its number where a write of bits ends before it or begins behind it.
 pub write_at-keeps : (b : ℕ) (at : ℕ → ℕ → ℕ) → 0 < b → Permutes b (at b) → (xs ys : List ℕ) (s : ℕ) (new : List Bool)
     → s + length new ≤ b * length xs → memory_bits b at ys ≡ write_at (memory_bits b at xs) s new
     → (e : ℕ) → (e * b + b ≤ s) ⊎ (s + length new ≤ e * b)

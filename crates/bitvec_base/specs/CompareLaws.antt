@@ -38,7 +38,7 @@ differs-apart true true told e = absurd cc
 
 -- ---- equality
 
--- `same_bits` is true exactly of equal lists.
+-- Two lists of `n` bits that have the same bit at each place below `n` are equal by `same_bits`.
 pub same-equal : (a b : List Bool) (n : ℕ) → length a ≡ n → length b ≡ n → SameBelow a b n → true ≡ same_bits a b
 same-equal a b n a-long b-long same =
     sym ((same_bits-decides a b).1 (same_lists a b (omega arith) (λ k d inside.

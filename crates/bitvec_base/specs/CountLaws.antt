@@ -4,7 +4,7 @@ use Rattle.std.proofs.Common.{arith, sym, ◌∙◌, ap}
 use Rattle.std.proofs.lemmas.List.Sums.{sum_by-append, sum_by-cons}
 use Rattle.bitvec_base.specs.SliceLaws.{range-join}
 
--- the ones and the zeros make up the length
+-- The ones and the zeros of a list of bits are together as many as its bits.
 pub ones_and_zeros : (list : List Bool) → count_by (λ (bit : Bool). bit) list + count_by not list ≡ length list
 ones_and_zeros [] = refl
 ones_and_zeros (true ∷ list) =

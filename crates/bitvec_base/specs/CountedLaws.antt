@@ -28,23 +28,29 @@ ones-rotated k list =
     let back = ones-append (drop k list) (take k list) in
     omega arith
 
+-- A list that is rotated to the left has as many ones as before.
 pub ones-rotated_left : (k : ℕ) (list : List Bool) → ones_of (rotated_left k list) ≡ ones_of list
 unfolding rotated_left
 ones-rotated_left k list = ones-rotated k list
 
+-- A list that is rotated to the right has as many ones as before.
 pub ones-rotated_right : (k : ℕ) (list : List Bool) → ones_of (rotated_right k list) ≡ ones_of list
 unfolding rotated_right
 ones-rotated_right k list = ones-rotated (length list - k) list
 
+-- A reversed list has as many ones as before.
 pub ones-reversed : (list : List Bool) → ones_of (reverse list) ≡ ones_of list
 ones-reversed list = sum_by-IsPermutation (λ (bit : Bool). cond bit 1 0) list (reverse list) (IsPermutation-reverse list)
 
+-- A list that is rotated to the left has as many zeros as before.
 pub zeros-rotated_left : (k : ℕ) (list : List Bool) → zeros_of (rotated_left k list) ≡ zeros_of list
 zeros-rotated_left k list = zeros-by_ones _ _ (length-rotated_left k list) (ones-rotated_left k list)
 
+-- A list that is rotated to the right has as many zeros as before.
 pub zeros-rotated_right : (k : ℕ) (list : List Bool) → zeros_of (rotated_right k list) ≡ zeros_of list
 zeros-rotated_right k list = zeros-by_ones _ _ (length-rotated_right k list) (ones-rotated_right k list)
 
+-- A reversed list has as many zeros as before.
 pub zeros-reversed : (list : List Bool) → zeros_of (reverse list) ≡ zeros_of list
 zeros-reversed list = zeros-by_ones _ _ (length-reverse list) (ones-reversed list)
 
@@ -54,7 +60,7 @@ ones-set : (list : List Bool) (i : ℕ) (bit : Bool) → i < length list
     → ones_of (slice_set list i bit) + cond (slice_index_or list i false) 1 0 ≡ ones_of list + cond bit 1 0
 ones-set list i bit inside = sum_by-set (λ (b : Bool). cond b 1 0) list i bit false inside
 
--- a 1 in place of a 0, and a 0 in place of a 1
+-- A list has one more 1 after a bit that is 0 is set to 1.
 pub ones-more : (list : List Bool) (i : ℕ) → i < length list → slice_index_or list i false ≡ false
     → ones_of (slice_set list i true) ≡ ones_of list + 1
 ones-more list i inside was =
@@ -62,6 +68,7 @@ ones-more list i inside was =
     let none : cond {A = ℕ} (slice_index_or list i false) 1 0 ≡ 0 = ap (λ (b : Bool). cond {A = ℕ} b 1 0) was in
     omega arith
 
+-- A list has one 1 fewer after a bit that is 1 is set to 0.
 pub ones-fewer : (list : List Bool) (i : ℕ) → i < length list → slice_index_or list i false ≡ true
     → ones_of (slice_set list i false) ≡ ones_of list - 1
 ones-fewer list i inside was =
@@ -69,6 +76,7 @@ ones-fewer list i inside was =
     let one : cond {A = ℕ} (slice_index_or list i false) 1 0 ≡ 1 = ap (λ (b : Bool). cond {A = ℕ} b 1 0) was in
     omega arith
 
+-- A list has one 0 fewer after a bit that is 0 is set to 1.
 pub zeros-fewer : (list : List Bool) (i : ℕ) → i < length list → slice_index_or list i false ≡ false
     → zeros_of (slice_set list i true) ≡ zeros_of list - 1
 zeros-fewer list i inside was =
@@ -78,6 +86,7 @@ zeros-fewer list i inside was =
     let long = length-set list i true in
     omega arith
 
+-- A list has one more 0 after a bit that is 1 is set to 0.
 pub zeros-more : (list : List Bool) (i : ℕ) → i < length list → slice_index_or list i false ≡ true
     → zeros_of (slice_set list i false) ≡ zeros_of list + 1
 zeros-more list i inside was =
@@ -90,38 +99,47 @@ zeros-more list i inside was =
 
 -- ---- of equal bits, and of flipped ones
 
+-- A list of `n` ones has `n` bits that are 1.
 pub ones-all : (n : ℕ) → ones_of (replicate n true) ≡ n
 ones-all n = sum_by-replicate (λ (bit : Bool). cond bit 1 0) n true ∙ omega arith
 
+-- A list of zeros has no bit that is 1.
 pub ones-none : (n : ℕ) → ones_of (replicate n false) ≡ 0
 ones-none n = sum_by-replicate (λ (bit : Bool). cond bit 1 0) n false ∙ omega arith
 
+-- A list of `n` zeros has `n` bits that are 0.
 pub zeros-all : (n : ℕ) → zeros_of (replicate n false) ≡ n
 zeros-all n = sum_by-replicate (λ (bit : Bool). cond (not bit) 1 0) n false ∙ omega arith
 
+-- A list of ones has no bit that is 0.
 pub zeros-none : (n : ℕ) → zeros_of (replicate n true) ≡ 0
 zeros-none n = sum_by-replicate (λ (bit : Bool). cond (not bit) 1 0) n true ∙ omega arith
 
+-- A list with each bit flipped has as many ones as the list had zeros.
 pub ones-flipped : (list : List Bool) → ones_of (map not list) ≡ zeros_of list
 ones-flipped [] = refl
 ones-flipped (bit ∷ list) =
     sum_by-cons (λ (b : Bool). cond b 1 0) (not bit) (map not list) ∙ ap (λ (n : ℕ). cond (not bit) 1 0 + n) (ones-flipped list)
     ∙ sym (sum_by-cons (λ (b : Bool). cond (not b) 1 0) bit list)
 
+-- A list with each bit flipped has as many zeros as the list had ones.
 pub zeros-flipped : (list : List Bool) → zeros_of (map not list) ≡ ones_of list
 zeros-flipped list = sym (ones-flipped (map not list)) ∙ ap (λ (l : List Bool). ones_of l) (flip-undoes list)
 
 -- ---- of the first and the other part of a list
 
+-- A range from the start that reaches the list's end has all the ones of the list.
 pub ones-whole : (list : List Bool) (e : ℕ) → length list ≤ e → ones_of (slice_range list 0 e) ≡ ones_of list
 ones-whole list e whole = ap (λ (l : List Bool). ones_of l) (range-all list e whole)
 
+-- The first `m` bits of a list have at most as many ones as the whole list.
 pub ones-front : (list : List Bool) (m : ℕ) → m ≤ length list → ones_of (slice_range list 0 m) ≤ ones_of list
 ones-front list m inside =
     let both = count-join list 0 m (length list) (omega arith) inside (omega arith) in
     let whole = ones-whole list (length list) (omega arith) in
     omega arith
 
+-- The bits from `m` to the list's end have as many ones as the list has beside those of its first `m` bits.
 pub ones-rest : (list : List Bool) (m e : ℕ) → m ≤ e → e ≡ length list
     → ones_of (slice_range list m e) ≡ ones_of list - ones_of (slice_range list 0 m)
 ones-rest list m e order all =

@@ -13,43 +13,43 @@ use Rattle.bitvec_base.specs.PlacesLaws.{first_place-cons, first_place-other, la
 
 -- ---- a list of equal bits has none of the others, and its first is one of them
 
--- In a list of one bit the other one stands nowhere, and the bit itself first at 0.
+-- A list of copies of one bit has no first place of the other bit.
 pub first-filled : (wanted bit : Bool) (n : ℕ) → bit ≢ wanted → first_place wanted (replicate n bit) ≡ None
 first-filled true true n other = absurd (other refl)
 first-filled true false n other = first_place-other true n
 first-filled false true n other = first_place-other false n
 first-filled false false n other = absurd (other refl)
 
--- In a list of one bit the other one stands nowhere, and the bit itself first at 0.
+-- A list of copies of one bit has no last place of the other bit.
 pub last-filled : (wanted bit : Bool) (n : ℕ) → bit ≢ wanted → last_place wanted (replicate n bit) ≡ None
 last-filled true true n other = absurd (other refl)
 last-filled true false n other = last_place-other true n
 last-filled false true n other = last_place-other false n
 last-filled false false n other = absurd (other refl)
 
--- In a list of one bit the other one stands nowhere, and the bit itself first at 0.
+-- The first place of a bit in a list of copies of it, which isn't empty, is 0.
 pub first-of_filled : (bit : Bool) (n : ℕ) → 0 < n → first_place bit (replicate n bit) ≡ Some 0
 first-of_filled bit zero some = absurd (omega arith)
 first-of_filled true (suc n) some = rw (first_place-cons true true (replicate n true)) refl
 first-of_filled false (suc n) some = rw (first_place-cons false false (replicate n false)) refl
 
--- Ones are all 1, zeros none.
+-- Every bit of a list of ones is 1.
 pub all-filled : (n : ℕ) → list_all (λ (bit : Bool). bit) (replicate n true) ≡ true
 all-filled zero = refl
 all-filled (suc n) = all-filled n
 
--- Ones are all 1, zeros none.
+-- No bit of a list of zeros is 1.
 pub any-filled : (n : ℕ) → list_any (λ (bit : Bool). bit) (replicate n false) ≡ false
 any-filled zero = refl
 any-filled (suc n) = any-filled n
 
 -- ---- lists that have the same bits are one list
 
--- `same_bits` is true exactly of equal lists.
+-- Two lists for which `same_bits` is true are equal.
 pub same-equal : (a b : List Bool) → same_bits a b ≡ true → a ≡ b
 same-equal a b same = (same_bits-decides a b).0 same
 
--- `same_bits` is true exactly of equal lists.
+-- `same_bits` is true of two equal lists.
 pub equal-same : (a b : List Bool) → a ≡ b → same_bits a b ≡ true
 equal-same a b same = (same_bits-decides a b).1 same
 
@@ -74,7 +74,7 @@ zero_memory b at n =
     get-memory_bits b at (replicate n 0) k d (omega (arith, length-memory_bits b at (replicate n 0)))
     ∙ zero_place b at (replicate n 0) k (zero_elements n (k / b)) ∙ sym (get_or-replicate (b * n) k false d below))
 
--- Words that are 0 have zeros alone.
+-- A memory whose elements are all 0 has only zeros as its bits.
 pub bits-zeros : (b : ℕ) (at : ℕ → ℕ → ℕ) (words : List ℕ) → words ≡ replicate (length words) 0
     → memory_bits b at words ≡ replicate (b * length words) false
 bits-zeros b at words zeros = ap (memory_bits b at) zeros ∙ zero_memory b at (length words)

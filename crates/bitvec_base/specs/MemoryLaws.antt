@@ -16,27 +16,27 @@ use Rattle.bitvec_base.specs.Window.{IsWithin, write_at}
 use Rattle.bitvec_base.specs.declared.window.Window.{Window}
 use Rattle.bitvec_base.specs.WriteLaws.{length-slice_range, get-slice_range, length-write_at, get-write_at_below, get-write_at_inside, get-write_at_above}
 
--- Elements have `BITS` bits each.
+-- A memory of elements of `b` bits has `b` bits for each element.
 pub length-memory_bits : (b : ℕ) (at : ℕ → ℕ → ℕ) (xs : List ℕ) → length (memory_bits b at xs) ≡ b * length xs
 unfolding memory_bits
 length-memory_bits b at xs = length-map-range_with_len (place_bit b at xs) 0 (b * length xs)
 
--- The bit at each place.
+-- The bit at index `j` of the list of a memory's bits is the one at place `j` of the memory.
 pub get-memory_bits : (b : ℕ) (at : ℕ → ℕ → ℕ) (xs : List ℕ) (j : ℕ) (d : Bool) → j < b * length xs → slice_index_or (memory_bits b at xs) j d ≡ place_bit b at xs j
 unfolding memory_bits
 get-memory_bits b at xs j d h = get_or-map-range_with_len (place_bit b at xs) 0 (b * length xs) j j d h (omega arith)
 
--- One element has `BITS` bits.
+-- An element has `b` bits.
 pub length-element_bits : (b : ℕ) (at : ℕ → ℕ → ℕ) (v : ℕ) → length (element_bits b at v) ≡ b
 unfolding element_bits
 length-element_bits b at v = length-map-range_with_len (λ i. bit_at v (at b i) == 1) 0 b
 
--- The bit at each index.
+-- Bit `i` of an element's list of bits is the bit of its number that the order gives to index `i`.
 pub get-element_bits : (b : ℕ) (at : ℕ → ℕ → ℕ) (v i : ℕ) (d : Bool) → i < b → slice_index_or (element_bits b at v) i d ≡ (bit_at v (at b i) == 1)
 unfolding element_bits
 get-element_bits b at v i d h = get_or-map-range_with_len (λ i. bit_at v (at b i) == 1) 0 b i i d h (omega arith)
 
--- The bit at an index of an element.
+-- The bit at place `e * b + i` of a memory is the one at index `i` of element `e`.
 pub place_bit-element : (b : ℕ) (at : ℕ → ℕ → ℕ) (xs : List ℕ) (e i : ℕ) → i < b → place_bit b at xs (e * b + i) ≡ (bit_at (slice_index xs e) (at b i) == 1)
 unfolding place_bit
 place_bit-element b at xs e i h = rw (div-mul-add e b i h, mod-mul-add e b i h) refl
@@ -45,11 +45,11 @@ place_bit-element b at xs e i h = rw (div-mul-add e b i h, mod-mul-add e b i h) 
 place_parts : (b k : ℕ) → 0 < b → k / b * b + k % b ≡ k
 place_parts b k some = div-add-mod' k b
 
--- the element's places lie within the memory
+-- The places of element `e` of `n` elements of `b` bits end at or before `b * n`.
 pub element_fits : (b e n : ℕ) → e < n → e * b + b ≤ b * n
 element_fits b e n h = let fits = row_fits e b n b h (omega arith) in omega arith
 
--- An element's bits, and those of some elements, are a range of the memory's.
+-- The bits of element `e` are the range `e * b..e * b + b` of the memory's bits.
 pub element-range : (b : ℕ) (at : ℕ → ℕ → ℕ) (xs : List ℕ) (e : ℕ) → e < length xs → slice_range (memory_bits b at xs) (e * b) (e * b + b) ≡ element_bits b at (slice_index xs e)
 element-range b at xs e h =
     let whole = length-memory_bits b at xs in
@@ -63,7 +63,7 @@ element-range b at xs e h =
     ∙ place_bit-element b at xs e k below
     ∙ sym (get-element_bits b at (slice_index xs e) k d below))
 
--- the bits of some elements are a slice of the memory
+-- The bits of the elements `a..e` are the range `a * b..e * b` of the memory's bits.
 pub memory-range : (b : ℕ) (at : ℕ → ℕ → ℕ) (xs : List ℕ) (a e : ℕ) → 0 < b → a ≤ e → e ≤ length xs → memory_bits b at (slice_range xs a e) ≡ slice_range (memory_bits b at xs) (a * b) (e * b)
 unfolding place_bit
 memory-range b at xs a e some order fits =
@@ -83,7 +83,7 @@ memory-range b at xs a e some order fits =
     get-memory_bits b at (slice_range xs a e) k d (omega arith)
     ∙ sym (get-slice_range (memory_bits b at xs) (a * b) (e * b) k d (omega arith) ∙ get-memory_bits b at xs (a * b + k) d (omega arith) ∙ rw (at-row, mul-add-mod_self_right a b k, sym element) refl))
 
--- the bits of two lists of elements, one after the other
+-- The bits of two joined lists of elements are the bits of the first, and then those of the second.
 pub memory-append : (b : ℕ) (at : ℕ → ℕ → ℕ) (front rest : List ℕ) → 0 < b → memory_bits b at (front ++ rest) ≡ memory_bits b at front ++ memory_bits b at rest
 memory-append b at front rest some =
     let all = front ++ rest in
@@ -125,7 +125,7 @@ set-element_at b at xs e v h q r d low high =
     ∙ place_bit-element b at xs q r low))))
     (cases_order q e)
 
--- a write of an element is a write of its bits
+-- A write of the number `v` to element `e` is a write of the bits of `v` from place `e * b` on.
 pub set-element : (b : ℕ) (at : ℕ → ℕ → ℕ) (xs : List ℕ) (e v : ℕ) → 0 < b → e < length xs → memory_bits b at (slice_set xs e v) ≡ write_at (memory_bits b at xs) (e * b) (element_bits b at v)
 set-element b at xs e v some h =
     let whole = length-memory_bits b at xs in
@@ -145,7 +145,7 @@ set-element b at xs e v some h =
 
 -- ---- an element's bits behind a mask
 
--- a number that has new bits at some indices of an element, and the old ones at all others
+-- A number with new bits at the indices `from..to` and the bits of `v` elsewhere is `v` with the new bits written there.
 pub masked_write : (b : ℕ) (at : ℕ → ℕ → ℕ) (v changed from to : ℕ) (new : List Bool) → from ≤ to → to ≤ b → length new ≡ to - from
     → ((i : ℕ) → from ≤ i → i < to → (d : Bool) → (bit_at changed (at b i) == 1) ≡ slice_index_or new (i - from) d)
     → ((i : ℕ) → i < b → (i < from) ⊎ (to ≤ i) → bit_at changed (at b i) ≡ bit_at v (at b i))
@@ -165,7 +165,7 @@ masked_write b at v changed from to new le fits long within without =
     (cases_lt k to))
     (cases_lt k from))
 
--- set at the mask's indices
+-- An `or` with the mask of the indices `from..to` sets the element's bits there, and leaves the others.
 pub element-or_mask : (b : ℕ) (at : ℕ → ℕ → ℕ) (p : Permutes b (at b)) (v from to : ℕ) → from ≤ to → to ≤ b → element_bits b at (bit_or v (mask_of (at b) from to)) ≡ write_at (element_bits b at v) from (replicate (to - from) true)
 element-or_mask b at p v from to le fits =
     let m = mask_of (at b) from to in
@@ -191,7 +191,7 @@ single_sum zero (suc (suc d)) w hc hd some e = absurd (omega arith)
 single_sum (suc zero) (suc (suc d)) w hc hd some e = absurd (omega arith)
 single_sum (suc (suc c)) d w hc hd some e = absurd (omega arith)
 
--- a bit of a number's complement at b bits
+-- Bit `k` of a number and bit `k` of its complement in `b` bits add up to 1.
 pub bit_of_complement : (b m k : ℕ) → m < 2 ^ b → k < b → bit_at (2 ^ b - 1 - m) k + bit_at m k ≡ 1
 bit_of_complement b m k small below =
     let power = pow_below k b below in
@@ -200,7 +200,7 @@ bit_of_complement b m k small below =
     let right = and_pow m k in
     single_sum (bit_at (2 ^ b - 1 - m) k) (bit_at m k) (2 ^ k) (bit_at-lt (2 ^ b - 1 - m) k) (bit_at-lt m k) (pow_pos k) (omega arith)
 
--- cleared at the mask's indices
+-- An `and` with the complement of the mask of the indices `from..to` clears the element's bits there, and leaves the others.
 pub element-and_not_mask : (b : ℕ) (at : ℕ → ℕ → ℕ) (p : Permutes b (at b)) (v from to : ℕ) → from ≤ to → to ≤ b → element_bits b at (bit_and v (2 ^ b - 1 - mask_of (at b) from to)) ≡ write_at (element_bits b at v) from (replicate (to - from) false)
 element-and_not_mask b at p v from to le fits =
     let m = mask_of (at b) from to in
@@ -226,7 +226,7 @@ flipped_bit zero h = refl
 flipped_bit (suc zero) h = refl
 flipped_bit (suc (suc c)) h = absurd (omega arith)
 
--- flipped at the mask's indices
+-- A `xor` with the mask of the indices `from..to` flips the element's bits there, and leaves the others.
 pub element-xor_mask : (b : ℕ) (at : ℕ → ℕ → ℕ) (p : Permutes b (at b)) (v from to : ℕ) → from ≤ to → to ≤ b → element_bits b at (bit_xor v (mask_of (at b) from to)) ≡ write_at (element_bits b at v) from (map not (slice_range (element_bits b at v) from to))
 element-xor_mask b at p v from to le fits =
     let m = mask_of (at b) from to in
@@ -248,6 +248,6 @@ element-xor_mask b at p v from to le fits =
     let small = bit_at-lt v (at b i) in
     bit_at_xor v m (at b i) ∙ ap (λ (c : ℕ). (bit_at v (at b i) + c) % 2) none ∙ (let still : (bit_at v (at b i) + 0) % 2 ≡ bit_at v (at b i) = omega arith in still))
 
--- a window of a memory is one of its bits
+-- A window that lies in a memory lies in the list of the memory's bits.
 pub within-bits : (b : ℕ) (at : ℕ → ℕ → ℕ) (xs : List ℕ) (window : Window) → IsWithin window (b * length xs) → IsWithin window (length (memory_bits b at xs))
 within-bits b at xs window within = subst (IsWithin window) (sym (length-memory_bits b at xs)) within

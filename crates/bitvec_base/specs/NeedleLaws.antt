@@ -9,12 +9,12 @@ use Rattle.bitvec_base.specs.SliceLaws.{range-from_start, range-to_end}
 use Rattle.bitvec_base.specs.Window.{IsWithin, window_of}
 use Rattle.bitvec_base.specs.WindowLaws.{length-window, part-of_window}
 
--- what begins or ends a list is no longer than it
+-- A part that a list begins with is no longer than the list.
 pub is_prefix-no_longer : (part list : List Bool) → is_prefix part list ≡ true → length part ≤ length list
 is_prefix-no_longer part list begins =
     ⊎_elim (λ long. let none = is_prefix-long part list long in cc) (λ fits. fits) (cases_lt (length list) (length part))
 
--- What begins or ends a list is no longer than it.
+-- A part that a list ends with is no longer than the list.
 pub is_suffix-no_longer : (part list : List Bool) → is_suffix part list ≡ true → length part ≤ length list
 is_suffix-no_longer part list ends =
     ⊎_elim (λ long. let none = is_suffix-long part list long in cc) (λ fits. fits) (cases_lt (length list) (length part))

@@ -5,11 +5,11 @@ use Rattle.std.proofs.lemmas.Bool.{cases_eq, cases_lt}
 use Rattle.bitvec_base.specs.Order.{Permutes}
 use Rattle.bitvec_store.specs.Width.{IsWidth}
 
--- The two orders are lawful; each bit number has an index.
+-- The order `Lsb0`, which gives index `i` the bit number `i`, is lawful at each width.
 pub lsb0_permutes : (b : ℕ) → IsWidth b → Permutes b (λ i. i)
 lsb0_permutes b w = record { below = λ i h. h; apart = λ i j h k e. e }
 
--- The two orders are lawful; each bit number has an index.
+-- The order `Msb0`, which gives index `i` the bit number `b - 1 - i`, is lawful at each width.
 pub msb0_permutes : (b : ℕ) → IsWidth b → Permutes b (λ i. b - 1 - i)
 msb0_permutes b w = record { below = λ i h. omega arith; apart = λ i j h k e. omega arith }
 
@@ -43,6 +43,6 @@ none_missed (suc n) at p place h missed =
     (without place (at n)) (smaller n (omega arith))
     (λ i k e. let last = same i n (omega arith) (omega arith) e in omega arith)
 
--- each bit number below b is that of an index
+-- Under a lawful order each bit number below `b` belongs to an index below `b`.
 pub Permutes-onto : (b : ℕ) (at : ℕ → ℕ) → Permutes b at → (place : ℕ) → place < b → (i : ℕ) × (i < b) × (at i ≡ place)
 Permutes-onto b at p place h = ⊎_elim (λ found. found) (λ missed. absurd (none_missed b at p place h missed)) (index_of at place b)

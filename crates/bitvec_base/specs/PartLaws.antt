@@ -59,7 +59,7 @@ part_bit b at v from to i fits low high d =
     ∙ ap (λ (k : ℕ). slice_index_or (element_bits b at v) k d) back
     ∙ get-element_bits b at v i d (omega arith)
 
--- A number stored in n bits of a list, the bound of one loaded there, and how many bits these are.
+-- The bits of an element at the indices `from..to` are `to - from` bits.
 pub length-part : (b : ℕ) (at : ℕ → ℕ → ℕ) (v from to : ℕ) → to ≤ b → length (slice_range (element_bits b at v) from to) ≡ to - from
 length-part b at v from to fits =
     let whole = length-element_bits b at v in

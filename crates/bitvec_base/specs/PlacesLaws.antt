@@ -28,7 +28,7 @@ places_of-cons wanted bit bits =
 
 -- ---- the first
 
--- The first place in no list, behind one bit more, in two lists joined.
+-- An empty list has no first place of a bit.
 pub first_place-nil : (wanted : Bool) → first_place wanted [] ≡ None
 unfolding places_of
 first_place-nil wanted = refl
@@ -38,7 +38,7 @@ first_of true places = refl
 first_of false [] = refl
 first_of false (i ∷ places) = ap Some (sym (add-one i))
 
--- The first place in no list, behind one bit more, in two lists joined.
+-- The first place is 0 if the first bit is the wanted one, and else one more than the first place of the rest.
 pub first_place-cons : (wanted bit : Bool) (bits : List Bool) → first_place wanted (bit ∷ bits) ≡ cond (beq bit wanted) (Some 0) (option_map (λ i. i + 1) (first_place wanted bits))
 first_place-cons wanted bit bits =
     ap (λ (l : List ℕ). slice_get l 0) (places_of-cons wanted bit bits)
@@ -54,7 +54,7 @@ moved_one n false (Some i) b = refl
 moved_one n false None None = refl
 moved_one n false None (Some i) = ap Some (let e : n + i + 1 ≡ suc n + i = omega arith in e)
 
--- the first place in a list of two parts
+-- The first place in two joined lists is that of the first list, or else that of the second behind the first.
 pub first_place-append : (wanted : Bool) (xs ys : List Bool) → first_place wanted (xs ++ ys) ≡ option_or (first_place wanted xs) (option_map (λ i. length xs + i) (first_place wanted ys))
 first_place-append wanted [] ys = rw (first_place-nil wanted) (sym (moved_none (first_place wanted ys)))
 first_place-append wanted (x ∷ xs) ys =
@@ -66,7 +66,7 @@ first_below true o n below i found = let same : 0 ≡ i = cc in omega arith
 first_below false (Some j) n below i found = let h = below j refl in let same : j + 1 ≡ i = cc in omega arith
 first_below false None n below i found = cc
 
--- A place that was found is below the length.
+-- The first place of a bit is below the length of the list.
 pub first_place-below : (wanted : Bool) (list : List Bool) (i : ℕ) → first_place wanted list ≡ Some i → i < length list
 first_place-below wanted [] i found = let none = first_place-nil wanted in cc
 first_place-below wanted (x ∷ xs) i found =
@@ -74,7 +74,7 @@ first_place-below wanted (x ∷ xs) i found =
 
 -- ---- the last
 
--- The last place in no list, behind one bit more, in a list of one, in two lists joined.
+-- An empty list has no last place of a bit.
 pub last_place-nil : (wanted : Bool) → last_place wanted [] ≡ None
 unfolding places_of
 last_place-nil wanted = refl
@@ -101,12 +101,12 @@ last_of true places =
     last_or-some 0 (map suc places) ∙ ap (λ (o : Option ℕ). option_or o (Some 0)) (last_or-map None places)
 last_of false places = last_or-map None places ∙ or_none (option_map (λ (i : ℕ). i + 1) (last_or None places))
 
--- The last place in no list, behind one bit more, in a list of one, in two lists joined.
+-- The last place is one more than that of the rest, or else 0 if the first bit is the wanted one.
 pub last_place-cons : (wanted bit : Bool) (bits : List Bool) → last_place wanted (bit ∷ bits) ≡ option_or (option_map (λ i. i + 1) (last_place wanted bits)) (cond (beq bit wanted) (Some 0) None)
 last_place-cons wanted bit bits =
     ap (last_or None) (places_of-cons wanted bit bits) ∙ last_of (beq bit wanted) (places_of wanted bits)
 
--- The last place in no list, behind one bit more, in a list of one, in two lists joined.
+-- The last place in a list of one bit is 0 if that bit is the wanted one, and else there is none.
 pub last_place-one : (wanted bit : Bool) → last_place wanted (bit ∷ []) ≡ cond (beq bit wanted) (Some 0) None
 last_place-one wanted bit = rw (last_place-cons wanted bit [], last_place-nil wanted) refl
 
@@ -118,7 +118,7 @@ last_moved_one : (n : ℕ) (here a b : Option ℕ) → option_or (option_map (λ
 last_moved_one n here a None = refl
 last_moved_one n here a (Some i) = ap Some (let e : n + i + 1 ≡ suc n + i = omega arith in e)
 
--- the last place in a list of two parts
+-- The last place in two joined lists is that of the second behind the first, or else that of the first.
 pub last_place-append : (wanted : Bool) (xs ys : List Bool) → last_place wanted (xs ++ ys) ≡ option_or (option_map (λ i. length xs + i) (last_place wanted ys)) (last_place wanted xs)
 last_place-append wanted [] ys = rw (last_place-nil wanted) (last_moved_none (last_place wanted ys))
 last_place-append wanted (x ∷ xs) ys =
@@ -130,7 +130,7 @@ last_below here (Some j) n below i found = let h = below j refl in let same : j 
 last_below true None n below i found = let same : 0 ≡ i = cc in omega arith
 last_below false None n below i found = cc
 
--- A place that was found is below the length.
+-- The last place of a bit is below the length of the list.
 pub last_place-below : (wanted : Bool) (list : List Bool) (i : ℕ) → last_place wanted list ≡ Some i → i < length list
 last_place-below wanted [] i found = let none = last_place-nil wanted in cc
 last_place-below wanted (x ∷ xs) i found =
@@ -143,13 +143,13 @@ not_wanted : (wanted : Bool) → beq (not wanted) wanted ≡ false
 not_wanted true = refl
 not_wanted false = refl
 
--- In a list of the other bit there is none.
+-- A list of copies of the other bit has no first place of the wanted bit.
 pub first_place-other : (wanted : Bool) (n : ℕ) → first_place wanted (replicate n (not wanted)) ≡ None
 first_place-other wanted zero = first_place-nil wanted
 first_place-other wanted (suc n) =
     rw (first_place-cons wanted (not wanted) (replicate n (not wanted)), not_wanted wanted, first_place-other wanted n) refl
 
--- In a list of the other bit there is none.
+-- A list of copies of the other bit has no last place of the wanted bit.
 pub last_place-other : (wanted : Bool) (n : ℕ) → last_place wanted (replicate n (not wanted)) ≡ None
 last_place-other wanted zero = last_place-nil wanted
 last_place-other wanted (suc n) =
@@ -162,7 +162,7 @@ any_by_cases true rest = refl
 any_by_cases false None = refl
 any_by_cases false (Some i) = refl
 
--- there is a first 1 exactly where some bit is 1
+-- There is a first place of a 1 exactly if some bit is 1.
 pub list_any-first_place : (list : List Bool) → is_some (first_place true list) ≡ list_any (λ bit. bit) list
 list_any-first_place [] = rw (first_place-nil true) refl
 list_any-first_place (bit ∷ bits) =
@@ -173,7 +173,7 @@ all_by_cases false rest = refl
 all_by_cases true None = refl
 all_by_cases true (Some i) = refl
 
--- there is no first 0 exactly where every bit is 1
+-- There is no first place of a 0 exactly if every bit is 1.
 pub list_all-first_place : (list : List Bool) → not (is_some (first_place false list)) ≡ list_all (λ bit. bit) list
 list_all-first_place [] = rw (first_place-nil false) refl
 list_all-first_place (bit ∷ bits) =
@@ -226,11 +226,11 @@ first_at wanted [] i found = let none = first_place-nil wanted in absurd cc
 first_at wanted (x ∷ xs) i found =
     first_of_cons wanted x xs (beq x wanted) refl (first_place wanted xs) (first_at wanted xs) i (sym (first_place-cons wanted x xs) ∙ found)
 
--- It has the bit.
+-- The bit at the first place of a bit is that bit.
 pub first_place-bit : (wanted : Bool) (list : List Bool) (i : ℕ) → first_place wanted list ≡ Some i → slice_index_or list i false ≡ wanted
 first_place-bit wanted list i found = (first_at wanted list i found).0
 
--- None before it, or behind it, has.
+-- No place before the first place of a bit has the bit.
 pub first_place-before : (wanted : Bool) (list : List Bool) (i k : ℕ) → first_place wanted list ≡ Some i → k < i → slice_index_or list k false ≢ wanted
 first_place-before wanted list i k found h = (first_at wanted list i found).1 k h
 
@@ -239,7 +239,7 @@ first_none_of_cons wanted x xs true is o rest found = absurd cc
 first_none_of_cons wanted x xs false is (Some j) rest found = absurd cc
 first_none_of_cons wanted x xs false is None rest found = absent_cons wanted x xs (differ x wanted is) (rest refl)
 
--- Where none was found, no place has the bit.
+-- If a bit has no first place, no place of the list has the bit.
 pub first_place-absent : (wanted : Bool) (list : List Bool) → first_place wanted list ≡ None → (k : ℕ) → k < length list → slice_index_or list k false ≢ wanted
 first_place-absent wanted [] found k h = absurd (omega arith)
 first_place-absent wanted (x ∷ xs) found k h =
@@ -250,7 +250,7 @@ last_none_of_cons wanted x xs here is (Some j) rest found = absurd cc
 last_none_of_cons wanted x xs true is None rest found = absurd cc
 last_none_of_cons wanted x xs false is None rest found = absent_cons wanted x xs (differ x wanted is) (rest refl)
 
--- Where none was found, no place has the bit.
+-- If a bit has no last place, no place of the list has the bit.
 pub last_place-absent : (wanted : Bool) (list : List Bool) → last_place wanted list ≡ None → (k : ℕ) → k < length list → slice_index_or list k false ≢ wanted
 last_place-absent wanted [] found k h = absurd (omega arith)
 last_place-absent wanted (x ∷ xs) found k h =
@@ -271,10 +271,10 @@ last_at wanted [] i found = let none = last_place-nil wanted in absurd cc
 last_at wanted (x ∷ xs) i found =
     last_of_cons wanted x xs (beq x wanted) refl (last_place wanted xs) (last_place-absent wanted xs) (last_at wanted xs) i (sym (last_place-cons wanted x xs) ∙ found)
 
--- It has the bit.
+-- The bit at the last place of a bit is that bit.
 pub last_place-bit : (wanted : Bool) (list : List Bool) (i : ℕ) → last_place wanted list ≡ Some i → slice_index_or list i false ≡ wanted
 last_place-bit wanted list i found = (last_at wanted list i found).0
 
--- None before it, or behind it, has.
+-- No place behind the last place of a bit has the bit.
 pub last_place-after : (wanted : Bool) (list : List Bool) (i k : ℕ) → last_place wanted list ≡ Some i → i < k → k < length list → slice_index_or list k false ≢ wanted
 last_place-after wanted list i k found low high = (last_at wanted list i found).1 k low high

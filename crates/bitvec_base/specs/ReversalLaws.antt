@@ -10,18 +10,18 @@ use Rattle.bitvec_base.specs.WriteLaws.{length-write_at, length-slice_range, get
 
 -- ---- two places exchanged
 
--- Of two values exchanged each is the other; the rest is as before.
+-- After the values at `i` and `j` are exchanged, the value at `j` is the one that stood at `i`.
 pub get-swap_second : {X : Type 0} (xs : List X) (i j : ℕ) (d : X) → i < length xs → j < length xs → slice_index_or (swap xs i j) j d ≡ slice_index_or xs i d
 get-swap_second xs i j d first second =
     let long = length-set xs i (slice_index_or xs j d) in
     rw (← swap_is xs i j d first second) (get_or-set_same _ j _ d (omega arith))
 
--- Of two values exchanged each is the other; the rest is as before.
+-- After the values at `i` and `j`, two different places, are exchanged, the value at `i` is the one that stood at `j`.
 pub get-swap_first : {X : Type 0} (xs : List X) (i j : ℕ) (d : X) → i < length xs → j < length xs → i ≢ j → slice_index_or (swap xs i j) i d ≡ slice_index_or xs j d
 get-swap_first xs i j d first second apart =
     rw (← swap_is xs i j d first second) (get_or-set_other _ j i _ d apart ∙ get_or-set_same xs i _ d first)
 
--- Of two values exchanged each is the other; the rest is as before.
+-- An exchange of the values at `i` and `j` leaves the value at each other place.
 pub get-swap_other : {X : Type 0} (xs : List X) (i j k : ℕ) (d : X) → i < length xs → j < length xs → k ≢ i → k ≢ j → slice_index_or (swap xs i j) k d ≡ slice_index_or xs k d
 get-swap_other xs i j k d first second not-first not-second =
     rw (← swap_is xs i j d first second) (get_or-set_other _ j k _ d not-second ∙ get_or-set_other xs i k _ d not-first)

@@ -25,7 +25,7 @@ pub rotated_right-left : {X : Type 0} (k : ℕ) (list : List X) → rotated_righ
 unfolding rotated_right rotated_left
 rotated_right-left k list = refl
 
--- a rotation to the one side and then to the other leaves the list
+-- A rotation by `k` to the left and then by `k` to the right gives the list again.
 pub rotated_right-undoes : {X : Type 0} (k : ℕ) (list : List X) → k ≤ length list → rotated_right k (rotated_left k list) ≡ list
 unfolding rotated_right rotated_left
 rotated_right-undoes {X} k list h =
@@ -37,6 +37,7 @@ rotated_right-undoes {X} k list h =
     ∙ ap (λ (xs : List X). back ++ xs) (take-append_seam front back)
     ∙ take-append-drop k list
 
+-- A rotation by `k` to the right and then by `k` to the left gives the list again.
 pub rotated_left-undoes : {X : Type 0} (k : ℕ) (list : List X) → k ≤ length list → rotated_left k (rotated_right k list) ≡ list
 rotated_left-undoes {X} k list h =
     let right = rotated_right k list in

@@ -3,7 +3,7 @@ use Rattle.std.specs.Prelude.{◌≡◌, ℕ, List}
 use Rattle.bitvec_base.specs.declared.window.Window.{Window}
 use Rattle.bitvec_base.specs.Memory.{HasWindow}
 
--- each lies in its memory, and they are as long
+-- Each of the two windows lies in its own memory, and they have the same length.
 pub record HasSpan (b : ℕ) (xs ys : List ℕ) (left right : Window) : Type 0 where
   pub window : HasWindow b xs left
   pub beside : HasWindow b ys right

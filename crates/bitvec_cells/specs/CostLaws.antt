@@ -16,6 +16,7 @@ step_span-some : (b : ℕ) → 1 ≤ step_span b false
 unfolding step_span
 step_span-some b = omega arith
 
+-- One load for each bit stays within `read_loads` of work that goes bit by bit.
 pub read_enough : (b n : ℕ) → n ≤ read_loads b false n
 unfolding read_loads
 read_enough b n =
@@ -23,10 +24,12 @@ read_enough b n =
     let some = step_span-some b in
     rw steps (omega (arith, mul-le-mul_left n some))
 
+-- Two loads for each bit stay within `write_loads` of work that goes bit by bit.
 pub write_enough : (b n : ℕ) → 2 * n ≤ write_loads b false n
 unfolding write_loads
 write_enough b n = let steps = work_steps-one n in rw steps (omega arith)
 
+-- One store for each bit stays within `write_stores` of work that goes bit by bit.
 pub store_enough : (b n : ℕ) → n ≤ write_stores b false n
 unfolding write_stores
 store_enough b n =
@@ -34,14 +37,17 @@ store_enough b n =
     let some = step_span-some b in
     rw steps (omega (arith, mul-le-mul_left n some))
 
+-- Two loads for each bit stay within `reverse_loads` of work that goes bit by bit.
 pub reverse_enough : (b n : ℕ) → 2 * n ≤ reverse_loads b false n
 unfolding reverse_loads
 reverse_enough b n = omega arith
 
+-- One store for each bit stays within `reverse_stores` of work that goes bit by bit.
 pub reverse_store_enough : (b n : ℕ) → n ≤ reverse_stores b false n
 unfolding reverse_stores
 reverse_store_enough b n = omega arith
 
+-- The laws by which work that goes bit by bit stays within its bounds, for `using`.
 pub ruleset enough = (read_enough, write_enough, store_enough, reverse_enough, reverse_store_enough)
 
 -- ---- each touched element once
@@ -124,4 +130,5 @@ edges_loaded b words (suc n) =
     let within : (if suc n == 0 then 0 else 2) ≤ work_steps words (suc n) * 2 = omega arith in
     within
 
+-- The laws by which work that goes element by element stays within its bounds, for `using`.
 pub ruleset in_steps = (touched_read, touched_stored, edges_loaded)

@@ -60,7 +60,7 @@ late_words b n = if b == 8 then (if nat_le 640 n then 9 else 0) else 0
 
 -- ---- what is left
 
--- the window holds the bits of a window of the other memory, and every bit outside it is as before
+-- The window holds the bits of the window `from` of the other memory, and every bit outside it is as before.
 abbrev pub Copies : ℕ → (ℕ → ℕ → ℕ) → List ℕ → List ℕ → Window → List ℕ → Window → Type 0
 Copies b at old new window other from = Writes b at old new window (list_in b at other from)
 
@@ -74,12 +74,12 @@ CopiesSome later b at old new first source skip count k =
     let moved = moved_place later k count in
     CopiesElements b at old new old (first + moved) (source + moved) skip k
 
--- each of two windows holds the bits that the other one held, and every bit outside them is as before
+-- Each of two windows holds the bits that the other one held, and every bit outside them is as before.
 pub record SwapsWindows (b : ℕ) (at : ℕ → ℕ → ℕ) (xs new_xs ys new_ys : List ℕ) (left right : Window) : Type 0 where
   pub writes : Copies b at xs new_xs left ys right
   pub right_writes : Copies b at ys new_ys right xs left
 
--- the same of whole elements and the bits from the index `skip` of the element `source` on, where `waiting` is to be that element, and `last` the last one
+-- Whole elements and bits from index `skip` of `source` on are exchanged, where `waiting` is to be `source`, and `last` the last element.
 abbrev pub SwapsElements : ℕ → (ℕ → ℕ → ℕ) → List ℕ → List ℕ → List ℕ → List ℕ → ℕ → ℕ → ℕ → ℕ → ℕ → ℕ → Type 0
 SwapsElements b at xs new_xs ys new_ys first source skip count waiting last =
     SwapsWindows b at xs new_xs (slice_set ys source waiting) (slice_set new_ys (source + count) last) (elements_window b first count) (elements_window_from b source skip count)

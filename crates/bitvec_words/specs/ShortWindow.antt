@@ -3,7 +3,7 @@ use Rattle.std.specs.Prelude.{ℕ, ◌+◌, ◌-◌, ◌<◌, ◌≤◌, Bool, f
 use Rattle.bitvec_base.specs.declared.window.Window.{Window}
 use Rattle.bitvec_base.specs.Memory.{HasWindow}
 
--- a window of the memory that isn't empty, and is no longer than an element
+-- The window lies in the memory, and has at least one bit and at most the `b` bits of an element.
 pub record HasShortWindow (b : ℕ) (xs : List ℕ) (window : Window) : Type 0 where
   pub inside : HasWindow b xs window
   pub some : 0 < window.len
@@ -13,6 +13,6 @@ pub record HasShortWindow (b : ℕ) (xs : List ℕ) (window : Window) : Type 0 w
 abbrev pub lowest_bit : Bool → ℕ → ℕ → ℕ → ℕ
 lowest_bit high b from len = if high then b - (from + len) else from
 
--- the list with zeros behind it, b bits in all
+-- The list with zeros behind it, up to `b` bits in all.
 unfoldable pub padded : ℕ → List Bool → List Bool
 padded b list = list ++ replicate (b - length list) false
