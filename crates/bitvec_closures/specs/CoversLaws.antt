@@ -1,4 +1,4 @@
--- Where the bits of a view stand whose pieces a split gave.
+-- Where the bits of a view stand among the pieces that a split of it gave.
 use Rattle.std.specs.Prelude.{◌≡◌, ℕ, ◌+◌, ◌-◌, ◌<◌, ◌≤◌, ◌⊎◌, Bool, true, false, List, [], ◌∷◌, MatchOption, Option, Some, None, slice_index_or, slice_range, unwrap_or, refl}
 use Rattle.std.specs.Bool.{MatchBool}
 use Rattle.std.specs.Borrow.{Bor}
@@ -67,7 +67,7 @@ module _ {T P : Type 0} (g : Mut P (ℕ × (Bor Bool × Unit {0})) Bool) (i : �
       (λ unfinished2 low2 high2 same. ⊎_elim (λ there. inl (inr there)) (λ said. inr (subst (λ v. SaysYes g (slice_index_or v.bits i false)) same said)) (covers t more last unfinished2 low2 high2 gives ends))
       (λ here. inl (inl here)) (λ said. inr said)
 
-  -- each bit of a view that was split is in a piece, or is one to which the predicate said yes
+  -- Each bit of a view that was split is in a piece, or is one to which the predicate said yes.
   pub split-covers : (view : Seen T) (pred : P) (pieces : List (Range ℕ)) → GivesInTurn (SplitNextIn g false false) (unsplit_in false view pred) pieces → i < view.window.len
       → IsInOne i pieces ⊎ SaysYes g (slice_index_or view.bits i false)
   split-covers view pred pieces in_turn below = covers (unsplit_in false view pred) pieces in_turn.last refl (omega arith) below in_turn.gives in_turn.ends

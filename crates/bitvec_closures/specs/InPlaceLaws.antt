@@ -20,29 +20,35 @@ module _ {T : Type 0} {b : ℕ} {at : ℕ → ℕ → ℕ} {value : T → ℕ} {
   long-memory : length view.memory ≡ b * length (map value view.elements)
   long-memory = ap length is.memory ∙ length-memory b at value view.elements ∙ ap (λ (n : ℕ). b * n) (sym (length-map view.elements value))
 
+  -- The window of what shows elements lies in its memory.
   pub shown-within : IsWithin view.window (length view.memory)
   shown-within = rw long-memory is.has.within
 
+  -- The memory of what shows elements has at most `max_bits` bits.
   pub shown-fits : length view.memory ≤ max_bits
   shown-fits = rw long-memory is.has.fits
 
+  -- The bits of what shows elements are those of its window in its memory.
   pub shown-bits : view.bits ≡ window_of view.memory view.window
   shown-bits = rw is.memory is.bits
 
+  -- What shows elements has as many bits as its window.
   pub length-shown : length view.bits ≡ view.window.len
   length-shown = ap length shown-bits ∙ length-window view.memory view.window shown-within
 
 module _ {V T : Type 0} {shows : V → Seen T} {named : V → GName} where
   -- ---- a view that stays in its place
 
+  -- A view that stays in its place in two edits stays in its place in both together.
   pub stays-then : {first second last : V} → StaysInPlace shows named first second → StaysInPlace shows named second last → StaysInPlace shows named first last
   stays-then one two = record { outside = two.outside ∙ one.outside; window = two.window ∙ one.window; elements = two.elements ∙ one.elements; name = two.name ∙ one.name }
 
-  -- the piece is that of the view before, where other pieces were edited
+  -- A piece of a view after other pieces were edited is that piece of the view before.
   pub piece-before : {view now : V} {piece : Seen T} (range : Range ℕ) → StaysInPlace shows named view now → cut (shows now).bits range ≡ cut (shows view).bits range → IsPieceOf (shows now) range piece → IsPieceOf (shows view) range piece
   piece-before range stays same is = record { bits = is.bits ∙ same; start = is.start ∙ ap (λ (w : Window). w.start + range.start) stays.window; len = is.len }
 
   module _ {b : ℕ} {at : ℕ → ℕ → ℕ} {value : T → ℕ} (sound : (v : V) → ShowsElements b at value (shows v)) where
+    -- A piece that was edited in its place has as many bits as its range.
     pub length-left : {view : Seen T} {piece left : V} {range : Range ℕ} → IsPieceOf view range (shows piece) → StaysInPlace shows named piece left → length (shows left).bits ≡ range.end - range.start
     length-left {view} {piece} {left} is stays = length-shown (sound left) ∙ ap (λ (w : Window). w.len) stays.window ∙ is.len
 
@@ -57,7 +63,7 @@ module _ {V T : Type 0} {shows : V → Seen T} {named : V → GName} where
       same-window : IsWithin (shows before).window (length (shows after).memory)
       same-window = rw (sym stays.window) (shown-within (sound after))
 
-      -- the memory is as long as before
+      -- An edit in place leaves the memory as long as before.
       pub kept-length : length (shows after).memory ≡ length (shows before).memory
       kept-length =
           let behind = ap length kept-outside.1 in
@@ -65,7 +71,7 @@ module _ {V T : Type 0} {shows : V → Seen T} {named : V → GName} where
           let new = same-window in
           omega (arith, length-drop {A = Bool})
 
-      -- it is the memory before with the view's bits as they are now
+      -- An edit in place leaves the memory of before with the view's bits as they are now.
       pub kept-memory : (shows after).memory ≡ write_window (shows before).memory (shows before).window (shows after).bits
       unfolding window_of write_at
       kept-memory =
@@ -81,6 +87,7 @@ module _ {V T : Type 0} {shows : V → Seen T} {named : V → GName} where
 
     -- ---- a view that is narrowed, edited and put back
 
+    -- A view that was narrowed to a range of itself is the piece of that range.
     pub piece-is : {view piece : V} (range : Range ℕ) → LiesIn (shows view).window.len range → StandsAt shows named view (window_range (shows view).window range.start range.end) piece → IsPieceOf (shows view) range (shows piece)
     piece-is {view} {piece} range lies stands =
         let place = window_range (shows view).window range.start range.end in
@@ -93,9 +100,11 @@ module _ {V T : Type 0} {shows : V → Seen T} {named : V → GName} where
         record { bits = cc; start = ap (λ (w : Window). w.start) stands.window; len = ap (λ (w : Window). w.len) stands.window }
 
     module _ {view piece left : V} {range : Range ℕ} {window : Window} (lies : LiesIn (shows view).window.len range) (narrowed : Narrows shows named view range window piece) (stays : StaysInPlace shows named piece left) where
+      -- The window of the view before it was narrowed lies in the memory that the edit left.
       pub may-return : IsWithin window (length (shows left).memory)
       may-return = rw (narrowed.stood, kept-length stays, narrowed.stands.memory) (shown-within (sound view))
 
+      -- A view that was narrowed, edited and widened again has the edited bits in its range and is else as before.
       pub returned : {after : V} → StandsAt shows named left window after → WritesInPlace shows named view after (write_at (shows view).bits range.start (shows left).bits)
       unfolding outside_of
       returned {after} back =
@@ -135,12 +144,14 @@ module _ {V T : Type 0} {shows : V → Seen T} {named : V → GName} where
 
     module _ {view half piece left : V} {mid : ℕ} (bound : mid ≤ (shows view).window.len) (is : IsPieceOf (shows view) (range_of 0 mid) (shows piece)) (stays : StaysInPlace shows named piece left)
         (wrote : WritesInPlace shows named view half (write_at (shows view).bits 0 (shows left).bits)) where
+      -- The bits behind `mid` of the view after its first half was edited are those of the view before.
       pub behind-is : {other : Seen T} → IsPieceOf (shows half) (range_of mid (shows view).window.len) other → IsPieceOf (shows view) (range_of mid (shows view).window.len) other
       behind-is other-is =
           let long = length-left is stays in
           let wide = length-shown (sound view) in
           piece-before _ wrote.stays (ap (λ (l : List Bool). slice_range l mid (shows view).window.len) wrote.bits ∙ range-write_at_after (shows view).bits 0 (shows left).bits mid _ (omega arith) (omega arith) (omega arith)) other-is
 
+      -- Edits of a view's two halves, one after the other, write the view with the bits that they left, joined.
       pub halves-written : {other right after : V} → IsPieceOf (shows view) (range_of mid (shows view).window.len) (shows other) → StaysInPlace shows named other right
           → WritesInPlace shows named half after (write_at (shows half).bits mid (shows right).bits) → WritesInPlace shows named view after ((shows left).bits ++ (shows right).bits)
       halves-written {other} {right} other-is kept then =

@@ -28,11 +28,11 @@ with_next-behind : {F : Type 0} (states : ℕ → F) (n : ℕ) (next : F) → wi
 with_next-behind states n next = ap (with_next states n next) (add-one n) ∙ with_next-suc states n next
 
 module _ {V T F : Type 0} {shows : V → Seen T} {step : F → ℕ → MutBor V → ⊤ → MutBor V → F → Type 0} {edit : F} {view : Seen T} {way : WayToCut} where
-  -- none at first
+  -- Before any call the edit was called on no piece, and is as it was given.
   pub in_turn-first : {lists : ℕ → List Bool} → CallsInTurn shows step edit view way 0 lists edit
   in_turn-first = record { states = λ _. edit; first = refl; last_is = refl; calls = λ k below. absurd (omega (arith, below)) }
 
-  -- one more, where the lists before it are as they were
+  -- One call more, on the next piece, extends the calls in turn, where the lists of the pieces before it stay.
   pub in_turn-more : {count : ℕ} {lists now : ℕ → List Bool} {f g : F} → CallsInTurn shows step edit view way count lists f → ((k : ℕ) → k < count → now k ≡ lists k)
       → EditsNumbered shows step view way count f (now count) g → CallsInTurn shows step edit view way (count + 1) now g
   in_turn-more {count} {lists} {now} {f} {g} in_turn same more =
@@ -46,7 +46,7 @@ module _ {V T F : Type 0} {shows : V → Seen T} {step : F → ℕ → MutBor V 
             (rw (with_next-kept in_turn.states count g count (omega arith), in_turn.last_is, with_next-behind in_turn.states count g) more);
       }
 
-  -- what holds of the edit at first, and behind each call that it held before, holds before each call
+  -- What holds of the edit at first, and after each call before which it held, holds before each call.
   pub in_turn-keep : (Holds : ℕ → F → Type 0) {count : ℕ} {lists : ℕ → List Bool} {last : F} (in_turn : CallsInTurn shows step edit view way count lists last) → Holds 0 edit
       → ((k : ℕ) (f g : F) (list : List Bool) → Holds k f → EditsNumbered shows step view way k f list g → Holds (k + 1) g)
       → (k : ℕ) → k ≤ count → Holds k (in_turn.states k)

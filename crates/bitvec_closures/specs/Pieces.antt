@@ -8,6 +8,7 @@ use Rattle.bitvec_cutting.specs.Cutting.{back_chunk, chunk, chunk_count, cut, wh
 use Rattle.bitvec_slice.specs.Seen.{Seen}
 use Rattle.bitvec_closures.specs.InPlace.{StandsAt, StaysInPlace}
 
+-- The range from one index up to, without, another.
 abbrev pub range_of : ℕ → ℕ → Range ℕ
 range_of from to = record { start = from; end = to }
 
@@ -16,32 +17,36 @@ pub record WayToCut : Type 0 where
   pub count : ℕ → ℕ
   pub place : ℕ → ℕ → Range ℕ
 
+-- The way to cut a list with this count and these places.
 abbrev pub way_of : (ℕ → ℕ) → (ℕ → ℕ → Range ℕ) → WayToCut
 way_of count place = record { count = count; place = place }
 
--- chunks of a size from the start and from the end, of which the last may be shorter, and those that are whole
+-- The way to cut a list into chunks of a size from its start, the last of which may be shorter.
 abbrev pub in_chunks : ℕ → WayToCut
 in_chunks size = record { count = chunk_count size; place = chunk size }
 
+-- The way to cut a list into chunks of a size from its end, the last of which may be shorter.
 abbrev pub in_back_chunks : ℕ → WayToCut
 in_back_chunks size = record { count = chunk_count size; place = back_chunk size }
 
+-- The way to cut a list into whole chunks of a size from its start, as `chunks_exact` of `bitvec` does.
 abbrev pub in_whole_chunks : ℕ → WayToCut
 in_whole_chunks size = record { count = whole_count size; place = whole_chunk size }
 
+-- The way to cut a list into whole chunks of a size from its end, as `rchunks_exact` of `bitvec` does.
 abbrev pub in_whole_back_chunks : ℕ → WayToCut
 in_whole_back_chunks size = record { count = whole_count size; place = back_chunk size }
 
--- each piece of a list of so many values has some of them, and no two have one in common
+-- No piece of a list of `len` values is empty, and no two have a value in common.
 abbrev pub IsApart : WayToCut → ℕ → Type 0
 IsApart way len = (k : ℕ) → k < way.count len → ((way.place len k).start < (way.place len k).end)
     × ((j : ℕ) → j < k → ((way.place len j).end ≤ (way.place len k).start) ⊎ ((way.place len k).end ≤ (way.place len j).start))
 
--- the index lies in none of them
+-- The index lies in no piece of a list of `len` values.
 abbrev pub IsLeftOut : WayToCut → ℕ → ℕ → Type 0
 IsLeftOut way len i = (k : ℕ) → k < way.count len → (i < (way.place len k).start) ⊎ ((way.place len k).end ≤ i)
 
--- the piece is the view's bits in the range
+-- The piece has the view's bits in the range, at their places in the view's memory.
 pub record IsPieceOf {T : Type 0} (view : Seen T) (range : Range ℕ) (piece : Seen T) : Type 0 where
   pub bits : piece.bits ≡ cut view.bits range
   pub start : piece.window.start ≡ view.window.start + range.start
@@ -53,7 +58,7 @@ pub record Narrows {V T : Type 0} (shows : V → Seen T) (named : V → GName) (
   pub stands : StandsAt shows named view (window_range (shows view).window range.start range.end) piece
   pub part : IsPieceOf (shows view) range (shows piece)
 
--- the piece is that of the number, which has some bits
+-- The piece is the one with this number, and has at least one bit.
 pub record IsNumbered {T : Type 0} (view : Seen T) (way : WayToCut) (number : ℕ) (piece : Seen T) : Type 0 where
   pub part : IsPieceOf view (way.place view.window.len number) piece
   pub below : number < way.count view.window.len
@@ -61,13 +66,13 @@ pub record IsNumbered {T : Type 0} (view : Seen T) (way : WayToCut) (number : �
   pub some : 0 < piece.window.len
 
 module _ {V T : Type 0} (shows : V → Seen T) (named : V → GName) where
-  -- an edit with this `pre` may be called on any such piece, and one with this `post` leaves it in its place
+  -- An edit with this contract may be called on each such piece, and leaves it in its place.
   pub record MayEdit {R : Type 0} (pre : MutBor V → Type 0) (post : MutBor V → R → MutBor V → Type 0) (IsPiece : Seen T → Type 0) : Type 0 where
     pub accepts : (p : MutBor V) → IsPiece (shows p.now) → pre p
     pub in_place : (p q : MutBor V) (r : R) → IsPiece (shows p.now) → post p r q → StaysInPlace shows named p.now q.now
 
 module _ {V T : Type 0} (shows : V → Seen T) where
-  -- such an edit was called on the piece, and the view has there the bits that it left
+  -- The edit was called on the piece, and the view has in its range the bits that it left.
   pub record EditsPiece {R : Type 0} (writes : V → V → List Bool → Type 0) (post : MutBor V → R → MutBor V → Type 0) (before : V) (range : Range ℕ) (r : R) (after : V) : Type 0 where
     pub piece : MutBor V
     pub left : MutBor V
@@ -75,7 +80,7 @@ module _ {V T : Type 0} (shows : V → Seen T) where
     pub edited : post piece r left
     pub written : writes before after (write_at (shows before).bits range.start (shows left.now).bits)
 
-  -- an edit with the one `post` was called on the bits before `mid`, and one with the other on those from it, and the view has what they left
+  -- One edit was called on the bits before `mid` and another on those from it, and the view has what they left.
   pub record EditsHalves {A B : Type 0} (writes : V → V → List Bool → Type 0) (left : MutBor V → A → MutBor V → Type 0) (right : MutBor V → B → MutBor V → Type 0) (before : V) (mid : ℕ) (a : A) (b : B) (after : V) : Type 0 where
     pub first : MutBor V
     pub first_left : MutBor V
@@ -87,7 +92,7 @@ module _ {V T : Type 0} (shows : V → Seen T) where
     pub second_edited : right second b second_left
     pub written : writes before after ((shows first_left.now).bits ++ (shows second_left.now).bits)
 
-  -- a call of an edit with these steps on the piece of the number left this list there, and the edit as `after`
+  -- A call on the piece with this number left this list there, and the edit as `after`.
   pub record EditsNumbered {F : Type 0} (step : F → ℕ → MutBor V → ⊤ → MutBor V → F → Type 0) (view : Seen T) (way : WayToCut) (number : ℕ) (before : F) (list : List Bool) (after : F) : Type 0 where
     pub piece : MutBor V
     pub left : MutBor V
@@ -104,12 +109,12 @@ module _ {V T : Type 0} (shows : V → Seen T) where
     pub calls : (k : ℕ) → k < count → EditsNumbered step view way k (states k) (lists k) (states (k + 1))
 
 module _ {V T : Type 0} (shows : V → Seen T) (named : V → GName) where
-  -- after any such calls the edit may be called on the next piece, and leaves it in its place
+  -- After any calls in turn the edit may be called on the next piece, and leaves it in its place.
   pub record MayEditEach {F : Type 0} (pre : F → ℕ → MutBor V → Type 0) (step : F → ℕ → MutBor V → ⊤ → MutBor V → F → Type 0) (edit : F) (view : Seen T) (way : WayToCut) : Type 0 where
     pub at : (f : F) (k : ℕ) (lists : ℕ → List Bool) → CallsInTurn shows step edit view way k lists f
         → MayEdit shows named (pre f k) (λ p r q. (g : F) × step f k p r q g) (IsNumbered view way k)
 
-  -- it was called on all pieces in turn, the bits in no piece are as before, and so is all else
+  -- The edit was called on all pieces in turn, and each bit in no piece, and all else, is as before.
   pub record EditsPieces {F : Type 0} (writes : V → V → List Bool → Type 0) (step : F → ℕ → MutBor V → ⊤ → MutBor V → F → Type 0) (edit : F) (before : V) (way : WayToCut) (after : V) : Type 0 where
     pub last : F
     pub in_turn : CallsInTurn shows step edit (shows before) way (way.count (shows before).window.len) (λ k. cut (shows after).bits (way.place (shows before).window.len k)) last

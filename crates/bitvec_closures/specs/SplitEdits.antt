@@ -1,4 +1,4 @@
--- Pieces of a view that a split gives in turn, and that a closure edits.
+-- Pieces of a view that a split gives in turn and that a closure edits.
 use Rattle.std.specs.Prelude.{◌≡◌, ℕ, ◌+◌, ◌≤◌, Bool, List, Option, Some, None, ⊤}
 use Rattle.std.specs.Borrow.{GName, MutBor}
 use Rattle.std.specs.List.{FoldsTo}
@@ -9,13 +9,13 @@ use Rattle.bitvec_slice.specs.Seen.{Seen}
 use Rattle.bitvec_closures.specs.Pieces.{IsPieceOf, MayEdit}
 use Rattle.bitvec_closures.specs.InPlace.{StaysInPlace}
 
--- a split that begins so gave these pieces in turn, and then none
+-- A split that begins as `first` gave these pieces in turn, and then none.
 pub record GivesInTurn {S : Type 0} (next : S → Option (Range ℕ) → S → Type 0) (first : S) (pieces : List (Range ℕ)) : Type 0 where
   pub last : S
   pub gives : FoldsTo (λ s piece t. next s (Some piece) t) first pieces last
   pub ends : next last None last
 
--- the piece is a range of the view, and not beyond those of which a view has so many
+-- The piece is a range of the view, and its number is at most the number of the view's bits.
 pub record IsGivenPiece {T : Type 0} (view : Seen T) (number : ℕ) (piece : Seen T) : Type 0 where
   pub range : Range ℕ
   pub lies : LiesIn view.window.len range
@@ -30,7 +30,7 @@ pub record Editing (F : Type 0) : Type 0 where
   pub number : ℕ
 
 module _ {V T : Type 0} (shows : V → Seen T) (named : V → GName) where
-  -- it was called on the range of the view, as that was before all edits, and its number; the bits that it left stand there
+  -- The edit was called on the range of the view before all edits, and the bits that it left stand there.
   pub record EditsNext {F : Type 0} (step : F → ℕ → MutBor V → ⊤ → MutBor V → F → Type 0) (view : V) (s : Editing F) (range : Range ℕ) (t : Editing F) : Type 0 where
     pub piece : MutBor V
     pub left : MutBor V
@@ -46,7 +46,7 @@ module _ {V T : Type 0} (shows : V → Seen T) (named : V → GName) where
     pub at : (s : Editing F) (pieces : List (Range ℕ)) → FoldsTo (EditsNext step view) (record { bits = (shows view).bits; edit = edit; number = 0 }) pieces s
         → MayEdit shows named (pre s.edit s.number) (λ p r q. (g : F) × step s.edit s.number p r q g) (IsGivenPiece (shows view) s.number)
 
-  -- so it was on each of the pieces in turn, from its first state on
+  -- The edit was called on each of the pieces in turn, and left the bits `new`.
   pub record EditsInTurn {F : Type 0} (step : F → ℕ → MutBor V → ⊤ → MutBor V → F → Type 0) (view : V) (edit : F) (pieces : List (Range ℕ)) (new : List Bool) : Type 0 where
     pub last : Editing F
     pub edits : FoldsTo (EditsNext step view) (record { bits = (shows view).bits; edit = edit; number = 0 }) pieces last

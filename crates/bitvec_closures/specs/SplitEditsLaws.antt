@@ -1,4 +1,4 @@
--- What a caller reads off the pieces of a split that were edited in turn.
+-- What a caller knows of the pieces of a split that were edited in turn.
 use Rattle.std.specs.Prelude.{◌≡◌, ℕ, ◌+◌, ◌-◌, ◌<◌, ◌≤◌, ◌⊎◌, Bool, false, List, [], ◌∷◌, length, slice_index_or, ⊤}
 use Rattle.std.specs.Borrow.{GName, MutBor}
 use Rattle.std.specs.List.{FoldsTo}
@@ -89,13 +89,13 @@ module _ {V T F : Type 0} {b : ℕ} {at : ℕ → ℕ → ℕ} {value : T → �
         related-from t more last (fits-still s t range long next).2 (related-next s t range long next same) edits
 
 module _ {T O F : Type 0} {t : Store T} {o : Order O} {step : F → ℕ → MutBor (BitSliceMut T O t o) → ⊤ → MutBor (BitSliceMut T O t o) → F → Type 0} {view : BitSliceMut T O t o} where
-  -- an edit that leaves in each piece what `leaves` makes of its number and its bits leaves the view with each piece made that
+  -- An edit that makes of each piece what `leaves` says leaves the view with each piece made so.
   pub edits-made : {edit : F} {pieces : List (Range ℕ)} {bits : List Bool} (leaves : ℕ → List Bool → List Bool) → EditsInTurn seen_mut name_of step view edit pieces bits
       → ((f g : F) (k : ℕ) (p q : MutBor (BitSliceMut T O t o)) → step f k p tt q g → (seen_mut q.now).bits ≡ leaves k (seen_mut p.now).bits) → bits ≡ made leaves (seen_mut view).bits 0 pieces (seen_mut view).bits
   edits-made {edit} {pieces} leaves edits leaves_so =
       edits.bits ∙ made-from seen_mut name_of step view leaves leaves_so (record { bits = (seen_mut view).bits; edit = edit; number = 0 }) pieces edits.last edits.edits
 
-  -- each bit of the view was related to itself, and each bit of a piece to what a step left there: so each bit is to what is there now
+  -- Each bit of a view is related to what stands there after the edits, where each edit relates the bits of its piece so.
   pub each-bit : {edit : F} {pieces : List (Range ℕ)} {bits : List Bool} (Related : Bool → Bool → Type 0) → EditsInTurn seen_mut name_of step view edit pieces bits → ((b : Bool) → Related b b)
       → ((f g : F) (k : ℕ) (p q : MutBor (BitSliceMut T O t o)) → step f k p tt q g → (i : ℕ) → i < (seen_mut p.now).window.len → Related (slice_index_or (seen_mut p.now).bits i false) (slice_index_or (seen_mut q.now).bits i false))
       → (i : ℕ) → Related (slice_index_or (seen_mut view).bits i false) (slice_index_or bits i false)
@@ -103,7 +103,7 @@ module _ {T O F : Type 0} {t : Store T} {o : Order O} {step : F → ℕ → MutB
       subst (λ (l : List Bool). Related (slice_index_or (seen_mut view).bits i false) (slice_index_or l i false)) (sym edits.bits)
       (related-from seen_mut name_of shows-seen_mut step view Related leaves i (record { bits = (seen_mut view).bits; edit = edit; number = 0 }) pieces edits.last (length-shown (shows-seen_mut view)) (same _) edits.edits)
 
-  -- a bit in no piece is as before
+  -- A bit in no piece is as before.
   pub bit-kept : {edit : F} {pieces : List (Range ℕ)} {bits : List Bool} (i : ℕ) (d : Bool) → EditsInTurn seen_mut name_of step view edit pieces bits → IsInNone i pieces → slice_index_or bits i d ≡ slice_index_or (seen_mut view).bits i d
   bit-kept {edit} {pieces} i d edits out =
       ap (λ (l : List Bool). slice_index_or l i d) edits.bits ∙ kept-from seen_mut name_of shows-seen_mut step view i d (record { bits = (seen_mut view).bits; edit = edit; number = 0 }) pieces edits.last (length-shown (shows-seen_mut view)) out edits.edits

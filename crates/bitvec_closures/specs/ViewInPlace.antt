@@ -12,6 +12,7 @@ use Rattle.bitvec_closures.specs.InPlace.{WritesInPlace}
 use Rattle.bitvec_closures.specs.InPlaceLaws.{kept-memory}
 
 module _ {T O : Type 0} {t : Store T} {o : Order O} where
+  -- A writable view that was written in its place was written.
   pub written_so : (before after : BitSliceMut T O t o) (new : List Bool) → WritesInPlace seen_mut name_of before after new → WritesBits before after new
   written_so before after new is = record {
     bits = is.bits;

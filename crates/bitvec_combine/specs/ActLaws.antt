@@ -13,13 +13,13 @@ use Rattle.bitvec_words.specs.TouchedLaws.{head_edge}
 use Rattle.bitvec_words.specs.WholeLaws.{HasWindow-part}
 use Rattle.bitvec_combine.specs.Acts.{HasMet}
 
--- a part of zeros that begins with some bits of a list
+-- The part of a zero element into which some first bits of a list's range were written is these bits, padded with zeros.
 pub padded-part : (b from to len : ℕ) (list : List Bool) → to ≤ b → len ≤ to - from → length list ≡ b
     → slice_range (write_at (replicate b false) from (slice_range list from (from + len))) from to ≡ padded (to - from) (slice_range list from (from + len))
 unfolding padded write_at
 padded-part b from to len list inside bound long = same_lists _ _ (search (rules, places)) (λ k d below. grind (arith, places))
 
--- zeros behind the second of two lists
+-- Zeros behind the second of two lists are zeros behind the two joined.
 pub padded-join : (k n m : ℕ) (first second : List Bool) → k ≡ n + m → length first ≡ n → first ++ padded m second ≡ padded k (first ++ second)
 unfolding padded
 padded-join k n m first second sum long =
@@ -28,17 +28,17 @@ padded-join k n m first second sum long =
 
 -- ---- whole elements
 
--- one of n spans of k elements
+-- The span at the index `i` of `n` spans of `k` elements ends within as many elements as hold all spans.
 pub span-fits : (i n k count : ℕ) → i < n → n * k ≤ count → i * k + k ≤ count
 span-fits i n k count more fits = let order = mul-le-mul_left k more in omega arith
 
--- as many as fit
+-- As many spans of `k` elements as the quotient says fit in `count` elements.
 pub spans-fit : (i k count : ℕ) → i ≡ count / k → i * k ≤ count
 spans-fit i k count is = rw is (div-mul-le_self count k)
 
 -- ---- two windows, the second of which may end before the first
 
--- behind the t bits of the first element that the first one touches
+-- Two windows that met still meet after the bits that the first one has in its first element, where more bits follow.
 pub met-rest : (b : ℕ) (xs now ys : List ℕ) (left right : Window) (t : ℕ) → 0 < b → HasMet b xs ys left right → length now ≡ length xs → t ≡ min left.len (b - left.start % b) → t ≢ left.len
     → HasMet b now ys (window_after t left) (window_after t right)
 met-rest b xs now ys left right t some met kept part more =

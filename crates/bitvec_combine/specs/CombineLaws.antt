@@ -28,7 +28,7 @@ use Rattle.bitvec_words.specs.TouchedLaws.{touched-edge, touched-one}
 use Rattle.bitvec_combine.specs.Acts.{IsCut, bits_beside}
 use Rattle.bitvec_combine.specs.Sides.{Combines, CombinesBits}
 
--- a window by its first t bits, which end where an element does or are all, and what is left
+-- The elements that a window touches are those of its first `t` bits and those of the rest, where an element ends between.
 pub touched-passed : (b s t n : ℕ) → 0 < b → t ≤ n → (t < n → (s + t) % b ≡ 0) → touched_count b s n ≡ touched_count b s (n - (n - t)) + touched_count b (s + t) (n - t)
 touched-passed b s t n some fits edge =
     let same : n - (n - t) ≡ t = omega arith in
@@ -38,14 +38,14 @@ touched-passed b s t n some fits edge =
     (λ (last : n ≤ t). let none : n - t ≡ 0 = omega arith in let count = touched-none b (s + t) in let whole : t ≡ n = omega arith in let all = ap (touched_count b s) whole in rw none (omega arith))
     (cases_lt t n))
 
--- at most n bits of a window
+-- The first `m` of `n` bits touch at most as many elements as the loads that a reader of `n` bits may make.
 pub touched-met : (b s m n : ℕ) (words : Bool) → 0 < b → m ≤ n → touched_count b s m ≤ read_loads b words n
 touched-met b s m n words some fits = let fewer = touched-less b s m n some fits in let most = touched_read b words s n some in omega arith
 
--- the elements of both are few enough
+-- These laws bound the elements that a window touches, for the loads of a loop that passes over it.
 pub ruleset passed = (touched-met, touched-passed)
 
--- zeros behind the bits of another window make no difference
+-- Combining with bits padded with zeros is combining with the window beside, since a bit past its end counts as 0.
 pub combines-beside : (b : ℕ) (at : ℕ → ℕ → ℕ) (op : BitOp) (old new ys : List ℕ) (to from : Window) → Writes b at old new to (combined (operator op) (list_in b at old to) (bits_beside b at ys to from)) → Combines b at op old new ys to from
 unfolding padded
 combines-beside b at op old new ys to from writes = Writes-is b at _ _ to _ _ writes (combined-padded (operator op) _ (list_in b at ys from) _)
@@ -53,6 +53,7 @@ combines-beside b at op old new ys to from writes = Writes-is b at _ _ to _ _ wr
 -- ---- what the act did
 
 module _ {E C : Type 0} (access : Access C E) (b : ℕ) (at : ℕ → ℕ → ℕ) where
+  -- Combining an empty window with no bits changes nothing.
   pub combines-empty : (c : C) (window : Window) (op : BitOp) → HasWindow b (access.numbers c) window → window.len ≡ 0 → CombinesBits access b at c c window [] op op
   combines-empty c window op has none =
       let long = length-list b at (access.numbers c) window has in
@@ -64,6 +65,7 @@ module _ {E C : Type 0} (access : Access C E) (b : ℕ) (at : ℕ → ℕ → �
         cost = record { borrow = refl; loads = omega arith; stores = omega arith };
       }
 
+  -- Combining the two windows that a window is cut into, one after the other, combines the whole window.
   pub combines-join : (c d e : C) (whole first second : Window) (list other : List Bool) (s t u : BitOp) → 0 < b → HasWindow b (access.numbers c) whole → IsCut b whole first second
       → CombinesBits access b at c d first list s t → CombinesBits access b at d e second other t u → CombinesBits access b at c e whole (list ++ other) s u
   combines-join c d e whole first second list other s t u some has cut before after =
@@ -87,6 +89,7 @@ module _ {E C : Type 0} (access : Access C E) (b : ℕ) (at : ℕ → ℕ → �
       let index = ap (λ (s : ℕ). s % b) start ∙ mod-mul-add e b k (omega arith) in
       record { writes = writes; long = long; same = refl; cost = rw (touched-one b window.start window.len some more (omega arith)) cost }
 
+  -- Combining a whole element with one load and one store combines its window.
   pub combines-whole : (c d : C) (e v w : ℕ) (op : BitOp) → 0 < b → e < length (access.numbers c) → element_bits b at w ≡ combined (operator op) (element_bits b at (slice_index (access.numbers c) e)) (element_bits b at v)
       → access.numbers d ≡ slice_set (access.numbers c) e w → Costs access c d 1 1 → CombinesBits access b at c d (record { start = e * b; len = b }) (element_bits b at v) op op
   combines-whole c d e v w op some inside made now cost =
@@ -96,6 +99,7 @@ module _ {E C : Type 0} (access : Access C E) (b : ℕ) (at : ℕ → ℕ → �
       combines-one c d e 0 one (element_bits b at v) op some (omega arith) some (omega arith) (length-element_bits b at v)
       (Writes-is b at xs _ one _ _ bits (made ∙ ap (λ (l : List Bool). combined (operator op) l (element_bits b at v)) (sym (list-whole b at xs e inside)))) cost
 
+  -- Combining a part of an element with one load and one store combines the part's window.
   pub combines-part : (c d : C) (part : Part) (v u w : ℕ) (op : BitOp) → 0 < b → HasPart b (access.numbers c) part → part.from < part.to
       → element_bits b at u ≡ combined (operator op) (element_bits b at (slice_index (access.numbers c) part.element)) (element_bits b at v)
       → element_bits b at w ≡ write_at (element_bits b at (slice_index (access.numbers c) part.element)) part.from (slice_range (element_bits b at u) part.from part.to)

@@ -38,6 +38,7 @@ touched-cut b whole first second width cut =
     rw (← cut.start, cut.len, cut.next) (touched-edge b first.start first.len second.len (width_some b width) (rw (← cut.next) cut.edge))
 
 module _ {E C : Type 0} (access : Access C E) (b : ℕ) (at : ℕ → ℕ → ℕ) where
+  -- An empty window has no difference from no bits.
   pub finds-none : (c : C) (window : Window) (n : ℕ) → window.len ≡ 0 → FindsDifference access b at c c window [] n n
   finds-none c window n none =
       record {
@@ -46,6 +47,7 @@ module _ {E C : Type 0} (access : Access C E) (b : ℕ) (at : ℕ → ℕ → �
         reads = record { numbers = refl; borrow = refl; loads = omega arith; stores = refl };
       }
 
+  -- Comparing the two windows that a window is cut into, one after the other, compares the whole window.
   pub finds-both : (c d e : C) (whole first second : Window) (list other : List Bool) (s t u : ℕ) → IsWidth b → HasWindow b (access.numbers c) whole → IsCut b whole first second
       → FindsDifference access b at c d first list s t → FindsDifference access b at d e second other t u → FindsDifference access b at c e whole (list ++ other) s u
   finds-both c d e whole first second list other s t u width has cut before after =
@@ -59,6 +61,7 @@ module _ {E C : Type 0} (access : Access C E) (b : ℕ) (at : ℕ → ℕ → �
         reads = record { numbers = after.reads.numbers ∙ now; borrow = after.reads.borrow ∙ before.reads.borrow; loads = omega arith; stores = after.reads.stores ∙ before.reads.stores };
       }
 
+  -- A difference found in the first bits of a window is one of the whole window, so that the rest needn't be compared.
   pub finds-early : (c d : C) (whole first : Window) (list other : List Bool) (s t : ℕ) → IsWidth b → HasWindow b (access.numbers c) whole → first.start ≡ whole.start → whole.len ≡ first.len + length other → not (t == 0) ≡ true
       → FindsDifference access b at c d first list s t → FindsDifference access b at c d whole (list ++ other) s t
   finds-early c d whole first list other s t width has start len stopped before =
@@ -73,7 +76,7 @@ module _ {E C : Type 0} (access : Access C E) (b : ℕ) (at : ℕ → ℕ → �
         reads = rw (← start) (record { numbers = before.reads.numbers; borrow = before.reads.borrow; loads = omega arith; stores = before.reads.stores });
       }
 
-  -- a load of one element
+  -- One load compares a window that lies in one element.
   pub finds-one : (old new : C) (window : Window) (list : List Bool) (before found n : ℕ) → IsWidth b → 0 < window.len → window.start % b + window.len ≤ b → length list ≡ window.len → OnlyReads access old new 1
       → found ≡ bit_or before n → (n == 0) ≡ same_bits (list_in b at (access.numbers old) window) list → FindsDifference access b at old new window list before found
   finds-one old new window list before found n width some inside long reads is told =
@@ -84,7 +87,7 @@ module _ {E C : Type 0} (access : Access C E) (b : ℕ) (at : ℕ → ℕ → �
         reads = record { numbers = reads.numbers; borrow = reads.borrow; loads = omega arith; stores = reads.stores };
       }
 
-  -- where none was found before
+  -- Where no difference was found before, the result says whether the window has the bits beside it.
   pub found_same : (old new : C) (ys : List ℕ) (left right : Window) (result : Bool) (before found : ℕ) → HasSpan b (access.numbers old) ys left right → FindsDifference access b at old new left (bits_beside b at ys left right) before found
       → before ≡ 0 → result ≡ (found == 0) → result ≡ same_bits (list_in b at (access.numbers old) left) (list_in b at ys right)
   found_same old new ys left right result before found span done none is =
@@ -92,11 +95,13 @@ module _ {E C : Type 0} (access : Access C E) (b : ℕ) (at : ℕ → ℕ → �
 
 -- ---- whole windows
 
--- an element that either window touches is one of its loads
+-- A window of `n` bits touches at most as many elements as a comparison of equal lengths may load.
 pub equal_enough : (b s n m : ℕ) → IsWidth b → n ≡ m → touched_count b s n ≤ equal_loads b true n m
 equal_enough b s n m width same = rw (← same) (let most = touched_read b true s n (width_some b width) in grind (arith, common_steps))
 
+-- The window beside, of `m` bits and the same length, touches at most as many elements as a comparison may load.
 pub equal_enough_right : (b s n m : ℕ) → IsWidth b → n ≡ m → touched_count b s m ≤ equal_loads b true n m
 equal_enough_right b s n m width same = rw same (equal_enough b s m m width refl)
 
+-- These laws bound the loads of a comparison, and tell it of an empty list and of lists of different lengths.
 pub ruleset compared = (equal_enough, equal_enough_right, length-list, same-empty, same-unequal)

@@ -21,12 +21,14 @@ use Rattle.bitvec_words.specs.Moves.{Copies}
 
 -- ---- the laws of the act
 
+-- Putting no bits in an empty window changes nothing.
 pub Puts-none : {E C : Type 0} (access : Access C E) (b : ℕ) (at : ℕ → ℕ → ℕ) (c : C) (window : Window) → HasWindow b (access.numbers c) window → window.len ≡ 0 → PutsBits access b at c c window []
 Puts-none access b at c window has none = record {
   writes = Writes-empty _ _ _ _ window has none refl;
   cost = search rules;
 }
 
+-- Putting bits in the two windows that a window is cut into, one after the other, puts their lists joined in the whole window.
 pub Puts-join : {E C : Type 0} (access : Access C E) (b : ℕ) (at : ℕ → ℕ → ℕ) (c d e : C) (whole first second : Window) (list other : List Bool) → IsWidth b → HasWindow b (access.numbers c) whole → IsCut b whole first second
     → PutsBits access b at c d first list → PutsBits access b at d e second other → PutsBits access b at c e whole (list ++ other)
 Puts-join access b at c d e whole first second list other width has cut before after = record {
@@ -36,16 +38,18 @@ Puts-join access b at c d e whole first second list other width has cut before a
 
 -- ---- a part of an element
 
+-- A part of an element needs at most as many loads as it has edges inside the element.
 pub part-edges : (b : ℕ) (part : Part) → part.from < part.to → part.to ≤ b → part_loads b part ≤ inside_edges b (part_window b part)
 part-edges b part some bound =
     let end : part.element * b + part.from + (part.to - part.from) ≡ part.element * b + part.to = omega arith in
     rw end (grind (arith, mod-mul-add part.element b part.from, mod-mul-add part.element b part.to))
 
--- one load unless it is all of the element, and one store, are within the bounds
+-- These laws bound the loads and stores of an act that puts bits in a window.
 pub ruleset stored = (part-edges, set-element, length-element_bits, length-set, width_some, touched-first)
 
 -- ---- two windows as long
 
+-- Putting the bits of the window beside in a window as long copies them.
 pub Puts-beside : {E C : Type 0} {access : Access C E} {b : ℕ} {at : ℕ → ℕ → ℕ} {c d : C} {ys : List ℕ} {left right other : Window} → HasSpan b (access.numbers c) ys left right → other ≡ right
     → PutsBits access b at c d left (bits_beside b at ys left other) → Copies b at (access.numbers c) (access.numbers d) left ys right
 Puts-beside {E} {C} {access} {b} {at} {c} {d} {ys} {left} {right} span is puts =

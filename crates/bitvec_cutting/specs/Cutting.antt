@@ -3,46 +3,46 @@ use Rattle.std.specs.Prelude.{ℕ, ◌+◌, ◌-◌, ◌*◌, ◌/◌, ◌%◌, 
 use Rattle.std.specs.Int.{div_ceil}
 use Rattle.std.specs.declared.ops.Range.{Range}
 
--- a list of so many values has the places
+-- The range is in order and lies in a list of `len` values.
 abbrev pub LiesIn : ℕ → Range ℕ → Type 0
 LiesIn len places = (places.start ≤ places.end) × (places.end ≤ len)
 
--- what stands there
+-- The values of the list in the range.
 abbrev pub cut : {X : Type 0} → List X → Range ℕ → List X
 cut xs places = slice_range xs places.start places.end
 
--- windows of a size: each but the first begins one place behind the one before it
+-- How many windows of a size a list has, as `windows` of std and `bitvec` gives them.
 abbrev pub window_count : ℕ → ℕ → ℕ
 window_count size len = len + 1 - size
 
--- `k..k + w`.
+-- The window with this number begins at the place `number` and has `size` values.
 abbrev pub window : ℕ → ℕ → ℕ → Range ℕ
 window size len number = record { start = number; end = number + size }
 
--- chunks, one behind the other from the first place on: the last may be shorter
+-- How many chunks of a size a list has, the last of which may be shorter.
 abbrev pub chunk_count : ℕ → ℕ → ℕ
 chunk_count size len = div_ceil len size
 
--- `k * w` up to the lesser of `(k + 1) * w` and `len`.
+-- The chunk with this number, from the list's start: it ends after `size` values or where the list does.
 abbrev pub chunk : ℕ → ℕ → ℕ → Range ℕ
 chunk size len number = record { start = number * size; end = min ((number + 1) * size) len }
 
--- of these, those that are whole, and what is left behind them
+-- How many whole chunks of a size a list has.
 abbrev pub whole_count : ℕ → ℕ → ℕ
 whole_count size len = len / size
 
--- `k * w..(k + 1) * w`.
+-- The whole chunk with this number, from the list's start.
 abbrev pub whole_chunk : ℕ → ℕ → ℕ → Range ℕ
 whole_chunk size len number = record { start = number * size; end = (number + 1) * size }
 
--- What whole chunks leave.
+-- The values behind the last whole chunk, as the remainder of `chunks_exact` has them.
 abbrev pub left_behind : ℕ → ℕ → Range ℕ
 left_behind size len = record { start = len - len % size; end = len }
 
--- chunks, one before the other from the last place on: the last of them, which begins the list, may be shorter
+-- The chunk with this number, from the list's end: it begins `size` values before its end or where the list does.
 abbrev pub back_chunk : ℕ → ℕ → ℕ → Range ℕ
 back_chunk size len number = record { start = len - (number + 1) * size; end = len - number * size }
 
--- what is left before those that are whole
+-- The values before the last whole chunk from the end, as the remainder of `rchunks_exact` has them.
 abbrev pub left_before : ℕ → ℕ → Range ℕ
 left_before size len = record { start = 0; end = len % size }

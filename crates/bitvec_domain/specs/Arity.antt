@@ -21,6 +21,7 @@ pub record Arity : Type 2 where
   pub facts : Lfts (suc (suc more)) → List (Type 0)
   pub args : Tys
 
+-- The arity of a struct over `T` and `O`.
 abbrev pub of_two : RattleType → RattleType → Arity
 of_two T O = record {
   more = 2;
@@ -31,6 +32,7 @@ of_two T O = record {
   args = tcons (ty_param 0) (tcons (ty_param 1) tnil);
 }
 
+-- The arity of a struct over `T`, `O` and `C`.
 abbrev pub of_three : RattleType → RattleType → RattleType → Arity
 of_three T O C = record {
   more = 3;
@@ -41,6 +43,7 @@ of_three T O C = record {
   args = tcons (ty_param 0) (tcons (ty_param 1) (tcons (ty_param 2) tnil));
 }
 
+-- The arity of a struct over `T`, `O`, `P`, `W` and `L`.
 abbrev pub of_five : RattleType → RattleType → RattleType → RattleType → RattleType → Arity
 of_five T O P W L = record {
   more = 5;
@@ -53,10 +56,12 @@ of_five T O P W L = record {
 }
 
 module _ {M : Type 1} (𝓤 : Ura M) where
+  -- The assertion with the facts before it, one after the other.
   abbrev pub lived : List (Type 0) → SProp 𝓤 → SProp 𝓤
   lived [] P = P
   lived (φ ∷ φs) P = sep 𝓤 (fact 𝓤 φ) (lived φs P)
 
+  -- An assertion with facts before it gives the assertion.
   pub unlived : (φs : List (Type 0)) (P : SProp 𝓤) → ent 𝓤 (lived φs P) P
   unlived [] P = id⊢ 𝓤 P
   unlived (φ ∷ φs) P = via 𝓤 _ (snd∗ 𝓤 (fact 𝓤 φ) (lived φs P)) (unlived φs P)

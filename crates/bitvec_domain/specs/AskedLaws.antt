@@ -19,7 +19,7 @@ module _ {F A : Type 0} (g : Mut F A Bool) (asked : ℕ → A) where
       let more = fills-by f h acts (k + 1) new last (subst (λ (p : F). FillsFrom R p (k + 1) new last) same.0 calls.2) in
       ap (λ (b : Bool). b ∷ new) same.1 ∙ ap (λ (l : List Bool). h k ∷ l) more
 
-  -- a closure that is a function of the index answers with that function's values
+  -- A closure whose answer is a function of the index answers with that function's values.
   pub answers-by : (f : F) (h : ℕ → Bool) (new : List Bool) → ((i : ℕ) (bit : Bool) (q : F) → R f i bit q → (q ≡ f) × (bit ≡ h i)) → AnswersTo g asked f new → new ≡ map h (range_with_len 0 (length new))
   answers-by f h new acts fills = fills-by f h acts 0 new fills.0 fills.1
 
@@ -33,7 +33,7 @@ module _ {F A : Type 0} (g : Mut F A Bool) (asked : ℕ → A) where
         let next = keeps done p call.0 calls.0 held (subst (λ (i : ℕ). R p i call.0 calls.0) here call.1) in
         calls-keep n xs gave.0 t (done ++ (call.0 ∷ [])) calls.0 q (omega (arith, at, gave.1.2, length-append done (call.0 ∷ []))) next gave.2 calls.2
 
-    -- So may one that keeps a fact under which it may be called.
+    -- A closure may be called at each index where every call keeps a fact under which it may be called.
     pub callable-by : (f : F) (n : ℕ) → J [] f → ((done : List Bool) (p : F) → J done p → length done < n → Takes g p (asked (length done))) → CallableTo g asked f n
     callable-by f n first allows = record {
       at = λ xs t q x u gave calls more.
@@ -42,7 +42,7 @@ module _ {F A : Type 0} (g : Mut F A Bool) (asked : ℕ → A) where
           subst (λ (i : ℕ). Takes g q (asked i)) here (allows all.0 q all.2 (omega (arith, all.1, more.0)));
     }
 
-  -- a closure that may always be called may be called so
+  -- A closure that may always be called may be called at each index below `n`.
   pub callable-always : (f : F) (n : ℕ) → always_mut g f → CallableTo g asked f n
   callable-always f n always =
       callable-by (λ done p. always_mut g p) (λ done p bit q held call. record { at = λ xs. (held.at (asked (length done) ∷ xs)).1 bit q call }) f n always (λ done p held below. (held.at (asked (length done) ∷ [])).0)

@@ -18,17 +18,18 @@ use Rattle.bitvec_domain.specs.Domains.{bits_if, bits_of_pieces, part_in, part_i
 use Rattle.bitvec_domain.specs.declared.cut.Cut.{Cut}
 use Rattle.bitvec_domain.specs.declared.cut.Cut.TheVariants.{Inside, Across}
 
--- the bits of the parts of a cut, one part after the other
+-- The bits of a part of a memory, and no bits where there is no part.
 abbrev pub part_bits_if : ℕ → (ℕ → ℕ → ℕ) → List ℕ → Option Part → List Bool
 part_bits_if b at xs None = []
 part_bits_if b at xs (Some part) = list_in b at xs (part_window b part)
 
+-- The bits of all parts of a cut, one part after the other.
 abbrev pub cut_bits : ℕ → (ℕ → ℕ → ℕ) → List ℕ → Cut → List Bool
 cut_bits b at xs (Inside part) = list_in b at xs (part_window b part)
 cut_bits b at xs (Across head start end tail) =
     part_bits_if b at xs head ++ (memory_bits b at (slice_range xs start end) ++ part_bits_if b at xs tail)
 
--- the cut lies in the memory, and its parts are the window
+-- The cut lies in the memory, and the bits of its parts, one after the other, are those of the window.
 pub record IsCutOf (b : ℕ) (at : ℕ → ℕ → ℕ) (xs : List ℕ) (window : Window) (cut : Cut) : Type 0 where
   pub within : IsCutWithin b (length xs) cut
   pub bits : cut_bits b at xs cut ≡ list_in b at xs window
@@ -82,6 +83,7 @@ module _ (b : ℕ) (at : ℕ → ℕ → ℕ) (xs : List ℕ) (window : Window) 
       }))
       (eqb_tells (last % b + 1) b)
 
+  -- A window that lies in a memory is what its cut's parts are together.
   pub cut_is : IsCutOf b at xs window (cut_of b window)
   unfolding window_of
   cut_is =
@@ -115,7 +117,7 @@ module _ (b : ℕ) (at : ℕ → ℕ → ℕ) (xs : List ℕ) (window : Window) 
 -- ---- the pieces of elements that contracts see
 
 module _ {T : Type 0} (b : ℕ) (at : ℕ → ℕ → ℕ) (value : T → ℕ) (xs : List T) where
-  -- the bits of a part of an element are those of its window
+  -- The bits of a part of an element are those of its window.
   pub part-bits : (part : Part) → IsPartWithin b (length (map value xs)) part → (part_in b at value xs part).bits ≡ list_in b at (map value xs) (part_window b part)
   unfolding window_of
   part-bits part within =
@@ -131,5 +133,6 @@ module _ {T : Type 0} (b : ℕ) (at : ℕ → ℕ → ℕ) (value : T → ℕ) (
   parts-bits (Across before start end after) within =
       rw (part_if-bits before (IfSome_then before within.0 (λ part is. is.within)), range-map value xs start end, part_if-bits after (IfSome_then after within.3 (λ part is. is.within))) refl
 
+  -- The pieces into which a window is cut have the window's bits, one piece after the other.
   pub pieces-bits : (window : Window) → 0 < b → HasWindow b (map value xs) window → bits_of_pieces b at value (pieces_in b at value xs (cut_of b window)) ≡ list_in b at (map value xs) window
   pieces-bits window some has = let is = cut_is b at (map value xs) window some has in parts-bits (cut_of b window) is.within ∙ is.bits

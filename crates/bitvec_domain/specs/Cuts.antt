@@ -21,17 +21,19 @@ cut_of b window =
     else (if first.to == b then cut_across b (Some first) (first.element + 1) (last_part_of b window)
     else Inside first))
 
--- the part is one of an element of n, and so is the head before the element `start`, and the tail from the start of the element `end` on
+-- The part isn't empty, and lies in one of `n` elements of `b` bits.
 pub record IsPartWithin (b n : ℕ) (part : Part) : Type 0 where
   pub element : part.element < n
   pub order : part.from < part.to
   pub bound : part.to ≤ b
 
+-- The part ends where its element does, which is the one before the element `start`.
 pub record IsHeadWithin (b n start : ℕ) (part : Part) : Type 0 where
   pub within : IsPartWithin b n part
   pub end : part.to ≡ b
   pub next : part.element + 1 ≡ start
 
+-- The part begins where its element does, which is the element `end`.
 pub record IsTailWithin (b n end : ℕ) (part : Part) : Type 0 where
   pub within : IsPartWithin b n part
   pub start : part.from ≡ 0
@@ -43,10 +45,11 @@ IsCutWithin b n (Inside part) = IsPartWithin b n part
 IsCutWithin b n (Across head start end tail) =
     IfSome head (IsHeadWithin b n start) × (start ≤ end) × (end ≤ n) × IfSome tail (IsTailWithin b n end)
 
--- the same part, of the elements from the element `first` on
+-- The same part, with its element counted from the element `first` on.
 abbrev pub part_from : ℕ → Part → Part
 part_from first part = record { element = part.element - first; from = part.from; to = part.to }
 
+-- The same part, if there is one, with its element counted from the element `first` on.
 abbrev pub part_if_from : ℕ → Option Part → Option Part
 part_if_from first None = None
 part_if_from first (Some part) = Some (part_from first part)

@@ -3,6 +3,6 @@ use Rattle.std.specs.Prelude.{Bool, List}
 use Rattle.std.specs.Hash.{HashWrites, bool}
 use Rattle.std.specs.List.{flat_map}
 
--- each bit as a truth value, in their order, and nothing else
+-- What a list of bits feeds a hasher: each bit as a `bool`, in order, and nothing else.
 unfoldable pub bits_fed : List Bool → HashWrites
 bits_fed bits = flat_map bool bits

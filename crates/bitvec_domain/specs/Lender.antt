@@ -49,16 +49,18 @@ use Rattle.std.proofs.raw_atomic.Walks.{proved}
 use Rattle.bitvec_domain.specs.Arity.{Arity, lived}
 use Rattle.bitvec_domain.specs.Through.{parts, Flat, lends_slice}
 
--- the fields behind the first, of a struct's type and of its machine value
+-- The types of the fields behind the first of a struct's type.
 abbrev pub behind_ty : Ty → Tys
 behind_ty (ty_struct ν (tcons τ τs)) = τs
 behind_ty τ = tnil
 
+-- The values of the fields behind the first of a struct's machine value.
 abbrev pub behind : Val → Vals
 behind (vstruct (vcons v vs)) = vs
 behind v = vnil
 
 module _ (T : RattleType) (N : Arity) (ν : Sym) (τs : Tys) where
+  -- The type of the field `elements` at the lifetime.
   abbrev pub elements_ty : Lifetime → Ty
   elements_ty ℓ = slice_ty (ty_ref ℓ mut (ty_param 0))
 
@@ -66,12 +68,14 @@ module _ (T : RattleType) (N : Arity) (ν : Sym) (τs : Tys) where
   abbrev pub spelled : Ty
   spelled = ty_struct ν (tcons (elements_ty erased) τs)
 
+  -- The method's code: it reads the field's length and address, and gives a reference of both.
   abbrev pub body : Body
   body =
       seq (assign (place 2 []) (rv_opd (copy (place 1 (deref spelled ∷ field 0 ∷ field 1 ∷ [])))))
       (seq (assign (place 3 []) (addr_of (place 1 (deref spelled ∷ field 0 ∷ field 0 ∷ deref (layout T) ∷ []))))
       (seq (assign (place 0 []) (aggregate (copy (place 3 []) ∷ copy (place 2 []) ∷ []))) return))
 
+  -- The method, as the machine has it, at a struct of the name `ν` with the fields `τs` behind the first.
   abbrev pub function : Fn
   function = record {
     lifetimes = 2;
@@ -90,9 +94,11 @@ module _ (T : RattleType) (N : Arity) (R : NamedLft → RattleType) (slice : (a 
   abbrev X : RattleType
   X = copied 0 T
 
+  -- The struct's type at its own lifetime, as the method's parameter borrows it.
   abbrev pub slot : Slot (suc (suc N.more))
   slot = plain {n = suc (suc N.more)} (λ κs. R (named_lft (suc (suc N.more)) 1 tt κs))
 
+  -- The method's signature: it borrows the struct exclusively and gives an exclusive slice of the same lifetime.
   abbrev pub signature : Signature
   signature = record {
     lifetimes = suc (suc N.more);
@@ -101,9 +107,11 @@ module _ (T : RattleType) (N : Arity) (R : NamedLft → RattleType) (slice : (a 
     result = mut_slice_of (0 ∷ []) tt (plain (λ κs. X));
   }
 
+  -- The signature, with no parameter kept for the contract's end.
   abbrev pub ended : Ended
   ended = record { signature = signature; kept = (no, tt) }
 
+  -- The contract: the struct follows the result, which is at first the slice that the field pointed at.
   abbrev pub clauses : {M : Type 1} {𝓤 : Ura M} (𝓛 : Logic 𝓤) → Clauses 𝓤 ended
   clauses {𝓤 = 𝓤} 𝓛 κs a = record {
     ghost = Unit {0};
@@ -122,10 +130,12 @@ module _ (T : RattleType) (N : Arity) (ν : Sym) (τs : Tys) (R : NamedLft → R
     (others : (a : NamedLft) → (R a).Denot → Vals)
     (is_raw : (a : NamedLft) → raw_all (R a).mir ≡ raw_ty (spelled T N ν τs) ∷ [])
     (told : (a : NamedLft) (s : (R a).Denot) (us : List Val) → Is (R a) s us → (us ≡ vstruct (vcons (slice_val (view a s).0.ref_ptr (length (view a s).0.now)) (others a s)) ∷ []) × Room (copied 0 T) (length (view a s).0.now)) where
+  -- The slice that the struct's first field borrows.
   abbrev pub slice_of : (a : NamedLft) → (R a).Denot → MutBor (List T.Denot)
   slice_of a s = (view a s).0
 
   module _ {M : Type 1} {𝓤 : Ura M} (𝓛 : Logic 𝓤) (𝓜 : Model 𝓤 𝓛.H) (𝓡 : Running 𝓤 𝓛.H 𝓜) where
+    -- The method's code meets the contract that `clauses` gives.
     pub lends_first : (k : Callee) → Closed 𝓤 𝓛.H (tables 𝓤 𝓛.H 𝓜 𝓡 𝓡.env).C (tables 𝓤 𝓛.H 𝓜 𝓡 𝓡.env).Λ k (function T N ν τs) → Meets 𝓛 (signature T N R slice_of F) ((tables 𝓤 𝓛.H 𝓜 𝓡 𝓡.env).C k) (closing 𝓛 (ended T N R slice_of F) (clauses T N R slice_of F 𝓛))
     unfolding part_of
     lends_first k closed =

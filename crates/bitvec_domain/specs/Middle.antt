@@ -26,7 +26,7 @@ use denote.Slice.{MutSlice, Room, slice_val}
 use denote.FollowSlice.{slice_of}
 use Rattle.std.specs.List.{refill}
 
--- the list with ws in the place of mid
+-- The list with `ws`, cut or filled up to as many as `mid` has, in the place of `mid`.
 abbrev pub whole : {X : Type 0} → List X → List X → List X → List X → List X
 whole front mid rest ws = front ++ (refill (length mid) mid ws ++ rest)
 
@@ -60,9 +60,11 @@ module _ {M : Type 1} {𝓤 : Ura M} (𝓛 : Logic 𝓤) (X : RattleType) (ℓ :
       rewrite ! 0 (λ (l : List X.Denot). ‵ (cells (mem X) l b o)) (sym same) refl $
       feq_i ! ℕ (length (whole front mid rest ws)) (length all) (ap length same ∙ long) $ fjoin ! $ done !)
 
+  -- The middle is lent as a slice under the new name, and the whole slice's name follows it.
   abbrev pub LentMid : Share → GName → SProp 𝓤
   LentMid q δ = sep 𝓤 (sem 𝓛 ((MutSlice ℓ κ X).own_val (record { ref_ptr = (b, from); ghost_name = δ; now = mid }) (slice_val (b, from) (length mid) ∷ []))) (sep 𝓤 (A.lft κ q) (sem 𝓛 (follows (Array X 0) (Array X 0) γ δ (whole front mid rest))))
 
+  -- A borrowed slice may lend its middle under a new name.
   pub lends_mid : Room X (length mid) → (q : Share) → ent 𝓤 (sep 𝓤 (A.obs γ ((coded_list X.coded).code all)) (sep 𝓤 (A.bor κ (Body (Arr (mem X) (length all)) b o γ)) (A.lft κ q))) (H.⇛ (ex 𝓤 (LentMid q)))
   lends_mid rm q =
       let code : Gv = (coded_list X.coded).code all in

@@ -74,6 +74,7 @@ module _ (T : RattleType) (N : Arity) (ν : Sym) (τs : Tys) where
       (seq (assign (place 10 []) (addr_of (place 8 (deref (layout T) ∷ []))))
       (seq (assign (place 0 []) (aggregate (copy (place 10 []) ∷ copy (place 9 []) ∷ []))) return)))))))
 
+  -- The method, as the machine has it, at a struct of the name `ν` with the fields `τs` behind the first.
   abbrev pub function : Fn
   function = record {
     lifetimes = 2;
@@ -99,6 +100,7 @@ module _ (T : RattleType) (N : Arity) (R : NamedLft → RattleType) (slice : (a 
   abbrev X : RattleType
   X = copied 0 T
 
+  -- The method's signature: it borrows the struct exclusively, takes two places, and gives an exclusive slice of the same lifetime.
   abbrev pub signature : Signature
   signature = record {
     lifetimes = suc (suc N.more);
@@ -107,9 +109,11 @@ module _ (T : RattleType) (N : Arity) (R : NamedLft → RattleType) (slice : (a 
     result = mut_slice_of (0 ∷ []) tt (plain (λ κs. X));
   }
 
+  -- The signature, with the two places kept for the contract's end.
   abbrev pub ended : Ended
   ended = record { signature = signature; kept = (no, (yes, (yes, tt))) }
 
+  -- The contract: the struct follows the result, which is at first the range that the two places cut out of the field's slice.
   abbrev pub clauses : {M : Type 1} {𝓤 : Ura M} (𝓛 : Logic 𝓤) → Clauses 𝓤 ended
   clauses {𝓤 = 𝓤} 𝓛 κs a =
       let v = named_lft (suc (suc N.more)) 1 tt κs in
@@ -145,6 +149,7 @@ uncapped (suc i) k h =
 abbrev pub Begins : Val → List Val → Type 0
 Begins v us = (vs : Vals) × (us ≡ vstruct (vcons v vs) ∷ [])
 
+-- A struct's machine value begins with its first field's, where the values of its fields are known.
 pub begins : (v : Val) (Rs : List RattleType) (us ws : List Val) (vss : Valss Rs) → us ≡ vstruct (of_list (ws ++ flat Rs vss)) ∷ [] → ws ≡ v ∷ [] → Begins v us
 begins v Rs us ws vss whole first = (of_list (flat Rs vss), whole ∙ ap (λ (l : List Val). vstruct (of_list (l ++ flat Rs vss)) ∷ []) first)
 
@@ -155,10 +160,12 @@ module _ (T : RattleType) (N : Arity) (ν : Sym) (τs : Tys) (R : NamedLft → R
     (put : (a : NamedLft) (s : (R a).Denot) (ws : List T.Denot) → view a (F a s ws) ≡ (at_last (view a s).0 (refill (length (view a s).0.now) (view a s).0.now ws), (view a s).1))
     (is_raw : (a : NamedLft) → raw_all (R a).mir ≡ raw_ty (spelled T N ν τs) ∷ [])
     (begun : (a : NamedLft) (s : (R a).Denot) (us : List Val) → Is (R a) s us → Begins (slice_val (view a s).0.ref_ptr (length (view a s).0.now)) us × Room (copied 0 T) (length (view a s).0.now)) where
+  -- The slice that the struct's first field borrows.
   abbrev pub slice_of : (a : NamedLft) → (R a).Denot → MutBor (List T.Denot)
   slice_of a s = (view a s).0
 
   module _ {M : Type 1} {𝓤 : Ura M} (𝓛 : Logic 𝓤) (𝓜 : Model 𝓤 𝓛.H) (𝓡 : Running 𝓤 𝓛.H 𝓜) where
+    -- The method's code meets the contract that `clauses` gives.
     pub lends_range : (k : Callee) → Closed 𝓤 𝓛.H (tables 𝓤 𝓛.H 𝓜 𝓡 𝓡.env).C (tables 𝓤 𝓛.H 𝓜 𝓡 𝓡.env).Λ k (function T N ν τs) → Meets 𝓛 (signature T N R slice_of F) ((tables 𝓤 𝓛.H 𝓜 𝓡 𝓡.env).C k) (closing 𝓛 (ended T N R slice_of F) (clauses T N R slice_of F 𝓛))
     unfolding part_of
     lends_range k closed =

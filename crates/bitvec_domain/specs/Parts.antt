@@ -8,25 +8,27 @@ use Rattle.bitvec_base.specs.declared.order.BitOrder.{Ghosts as Order}
 use Rattle.bitvec_domain.specs.declared.part.PartialElement.{PartialElement}
 use Rattle.bitvec_domain.specs.declared.part_mut.PartialElementMut.{PartialElementMut}
 
--- the number of the element, the index of the part's first bit there, that past its last one, and the bits between them
+-- A part of an element: the element's number, the index of its first bit, that past its last bit, and the bits between.
 pub record SeenPart : Type 0 where
   pub number : ℕ
   pub head : ℕ
   pub tail : ℕ
   pub bits : List Bool
 
--- the bits of an element of this number from index `head` up to, without, `tail`
+-- The part of an element with this number whose bits stand from the index `head` up to, without, `tail`.
 abbrev pub partial_at : ℕ → (ℕ → ℕ → ℕ) → ℕ → ℕ → ℕ → SeenPart
 partial_at b at number head tail = record { number = number; head = head; tail = tail; bits = slice_range (element_bits b at number) head tail }
 
 module _ {T O : Type 0} {t : Store T} {o : Order O} where
+  -- What a part that is read shows.
   abbrev pub seen_part : PartialElement T O t o → SeenPart
   seen_part p = partial_at t.BITS o.at (t.value p.element.now) p.head p.tail
 
+  -- What a part that is written shows.
   abbrev pub seen_part_mut : PartialElementMut T O t o → SeenPart
   seen_part_mut p = partial_at t.BITS o.at (t.value p.element.now) p.head p.tail
 
-  -- which element a part that is written borrows, by its name among borrows
+  -- The name among borrows of the element that a written part borrows.
   abbrev pub name_of_part : PartialElementMut T O t o → GName
   name_of_part p = p.element.ghost_name
 

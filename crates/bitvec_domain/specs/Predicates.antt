@@ -5,10 +5,11 @@ use Rattle.std.specs.Borrow.{Bor}
 use Rattle.std.specs.Fn.{Called, Mut, Takes}
 use Rattle.std.specs.List.{range_with_len}
 
--- the indices below n, from 0 up, and from the last down
+-- The indices below `n`, from 0 up.
 abbrev pub upward : ℕ → List ℕ
 upward n = range_with_len 0 n
 
+-- The indices below `n`, from the last down.
 abbrev pub downward : ℕ → List ℕ
 downward zero = []
 downward (suc n) = n ∷ downward n
@@ -34,10 +35,10 @@ module _ {P : Type 0} (g : Mut P (ℕ × (Bor Bool × Unit {0})) Bool) where
       q.0 < n → ((shown : Bor Bool) → shown.now ≡ q.1 → Takes g pred (q.0, (shown, tt)))
       × ((answer : Bool) (next : P) → Asks pred q.0 q.1 answer next → MayAskEach n next more)
 
-  -- it may be asked about any index below n, with either bit, so many times at most, whatever it answered before
+  -- The predicate may be asked at most `times` times about indices below `n` and either bit, whatever it answered before.
   pub record MayAskTimes (n times : ℕ) (pred : P) : Type 0 where
     pub at : (questions : List (ℕ × Bool)) → length questions ≤ times → MayAskEach n pred questions
 
-  -- about n bits, as a split of them asks: n times at most
+  -- The predicate may be asked as a split of `n` bits asks it: at most `n` times, about indices below `n`.
   abbrev pub MayAsk : ℕ → P → Type 0
   MayAsk n pred = MayAskTimes n n pred

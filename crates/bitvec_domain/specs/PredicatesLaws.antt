@@ -28,45 +28,45 @@ module _ {P : Type 0} (g : Mut P (ℕ × (Bor Bool × Unit {0})) Bool) where
 
 module _ {P : Type 0} {g : Mut P (ℕ × (Bor Bool × Unit {0})) Bool} where
   module _ {n times : ℕ} {pred : P} (may : MayAskTimes g n times pred) (left : 0 < times) where
-    -- it may be asked now, and once less afterwards
+    -- A predicate that may be asked at least once may be asked now about an index below `n`.
     pub may_ask-now : (index : ℕ) (shown : Bor Bool) → index < n → Takes g pred (index, (shown, tt))
     may_ask-now index shown below = (may.at ((index, shown.now) ∷ []) (omega (arith, left)) below).0 shown refl
 
-    -- A predicate that may be asked may be, and afterwards once less.
+    -- A predicate that was asked once may be asked once less afterwards.
     pub may_ask-next : {index : ℕ} {bit answer : Bool} {next : P} → index < n → Asks g pred index bit answer next → MayAskTimes g n (times - 1) next
     may_ask-next {index} {bit} below asks = record { at = λ more few. (may.at ((index, bit) ∷ more) (omega (arith, left, few)) below).1 _ _ asks }
 
-  -- about fewer bits, and fewer times, too
+  -- A predicate may also be asked about fewer bits, and fewer times.
   pub may_ask_of_fewer : {m n less times : ℕ} {pred : P} → MayAskTimes g n times pred → m ≤ n → less ≤ times → MayAskTimes g m less pred
   may_ask_of_fewer {m} {n} {less} {times} {pred} may order rarer =
       record { at = λ questions few. less_each g m n pred questions order (may.at questions (omega (arith, rarer, few))) }
 
-  -- a predicate that may always be called may be asked
+  -- A predicate that may always be called may be asked any number of times.
   pub may_ask_always : {n times : ℕ} {pred : P} → always_mut g pred → MayAskTimes g n times pred
   may_ask_always {n} {times} {pred} always = record { at = λ questions few. always_each g n pred questions always }
 
-  -- Of either.
+  -- A predicate that may always be called, or asked so many times, may be asked so many times.
   pub may_ask_either : {n times : ℕ} {pred : P} → always_mut g pred ⊎ MayAskTimes g n times pred → MayAskTimes g n times pred
   may_ask_either (inl always) = may_ask_always always
   may_ask_either (inr may) = may
 
-  -- what a split that isn't finished may ask
+  -- The predicate of a split that isn't finished may be asked, where it may always be called, or while the split isn't finished.
   pub may_ask_unfinished : {n times : ℕ} {finished : Bool} {pred : P} → finished ≡ false → always_mut g pred ⊎ (finished ≡ false → MayAskTimes g n times pred) → MayAskTimes g n times pred
   may_ask_unfinished going (inl always) = may_ask_always always
   may_ask_unfinished going (inr may) = may going
 
   -- the askings that go on with a yes, or with a no and the others
   module _ (bits : List Bool) {pred next : P} {index : ℕ} (indices more : List ℕ) (are : indices ≡ index ∷ more) where
-    -- It was asked until it said yes.
+    -- A predicate that says yes to the first index ends the asking there.
     pub asked-yes : Asks g pred index (slice_index_or bits index false) true next → Asked g bits pred indices (Some index) next
     asked-yes asks = rw are (true, next, asks, (refl, refl))
 
-    -- Once more.
+    -- A predicate that says no to the first index is asked about those behind it.
     pub asked-no : (found : Option ℕ) (last : P) → Asks g pred index (slice_index_or bits index false) false next → Asked g bits next more found last
         → Asked g bits pred indices found last
     asked-no found last asks rest = rw are (false, next, asks, rest)
 
-  -- a predicate that is a function of the index and the bit there said yes at the first index at which that is true
+  -- A predicate that is a function of index and bit says yes at the first index where the function is true.
   pub asked_first : (bits : List Bool) (test : ℕ → Bool → Bool) (pred : P)
       → ((index : ℕ) (bit answer : Bool) (next : P) → Asks g pred index bit answer next → (next ≡ pred) × (answer ≡ test index bit))
       → (indices : List ℕ) (found : Option ℕ) (last : P) → Asked g bits pred indices found last → found ≡ find (λ i. test i (slice_index_or bits i false)) indices
@@ -76,12 +76,12 @@ module _ {P : Type 0} {g : Mut P (ℕ × (Bor Bool × Unit {0})) Bool} where
       by_answer _ _ i found (find (λ k. test k (slice_index_or bits k false)) more) asked.0 (test i (slice_index_or bits i false)) same.1 asked.3
       (λ rest. asked_first bits test pred acts more found last (subst (λ (q : P). Asked g bits q more found last) same.0 rest))
 
--- the indices from one up: it, and those from the next on
+-- The indices from `index` up to `n` are `index` and those from the next one on.
 pub upward-from : (index n : ℕ) → index < n → range_with_len index (n - index) ≡ index ∷ range_with_len (index + 1) (n - (index + 1))
 upward-from index n below =
     let one : n - index ≡ suc (n - (index + 1)) = omega (arith, below) in
     ap (λ (k : ℕ). range_with_len index k) one
 
--- those from one down: the one before its end, and those below
+-- The indices below `end`, downward, are the one before it and those below that.
 pub downward-from : (end : ℕ) → 0 < end → downward end ≡ (end - 1) ∷ downward (end - 1)
 downward-from end some = let one : end ≡ suc (end - 1) = omega (arith, some) in ap downward one

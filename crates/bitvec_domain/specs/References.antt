@@ -9,30 +9,32 @@ use Rattle.bitvec_base.specs.declared.order.BitOrder.{Ghosts as Order}
 use Rattle.bitvec_domain.specs.declared.reference.BitRef.{BitRef}
 use Rattle.bitvec_domain.specs.declared.reference_mut.BitRefMut.{BitRefMut}
 
--- the bit that is read
+-- The bit that a `BitRef` reads.
 abbrev pub bit_of_ref : {T O : Type 0} → BitRef T O → Bool
 bit_of_ref r = r.bit.now
 
 module _ {T O : Type 0} {t : Store T} {o : Order O} where
-  -- the elements of the memory that is borrowed, and all bits of them
+  -- The elements of the memory that a `BitRefMut` borrows.
   abbrev pub elements_of_ref_mut : BitRefMut T O t o → List T
   elements_of_ref_mut r = r.elements.now
 
+  -- All bits of the elements that a `BitRefMut` borrows.
   unfoldable pub memory_of_ref_mut : BitRefMut T O t o → List Bool
   memory_of_ref_mut r = memory_bits t.BITS o.at (map t.value r.elements.now)
 
-  -- where in its memory the bit stands
+  -- The place, in bits, at which the bit stands in its memory.
   abbrev pub place_of_ref_mut : BitRefMut T O t o → ℕ
   place_of_ref_mut r = r.place
 
+  -- The window of the one bit in its memory.
   abbrev pub window_of_ref_mut : BitRefMut T O t o → Window
   window_of_ref_mut r = bit_window r.place
 
-  -- the bit
+  -- The bit that a `BitRefMut` writes, as it is now.
   unfoldable pub bit_of_ref_mut : BitRefMut T O t o → Bool
   bit_of_ref_mut r = slice_index_or (memory_of_ref_mut r) r.place false
 
-  -- which memory is borrowed, by its name among borrows
+  -- The name among borrows of the memory that a `BitRefMut` borrows.
   abbrev pub name_of_ref_mut : BitRefMut T O t o → GName
   name_of_ref_mut r = r.elements.ghost_name
 
@@ -44,10 +46,10 @@ module _ {T O : Type 0} {t : Store T} {o : Order O} where
     pub place : place_of_ref_mut after ≡ place_of_ref_mut before
     pub name : name_of_ref_mut after ≡ name_of_ref_mut before
 
--- the elements of the memory that it leaves, where it ends at a call
+-- The elements that a borrowed memory has at the call at which the borrow ends.
 abbrev pub elements_left : {T X : Type 0} → MutBor (List T) × X → List T
 elements_left (elements, rest) = elements.now
 
--- a bit's text
+-- The text of a bit as a truth value: `true` or `false`.
 abbrev pub truth_text : Bool → List ℕ
 truth_text bit = if bit then codes "true" else codes "false"

@@ -13,13 +13,13 @@ put-keeps xs mid start end order bound long = record {
   behind = same_lists _ _ (search (rules, places)) (λ k d inside. grind (arith, places));
 }
 
--- A list whose range was replaced keeps the values outside it.
+-- A list in which a range was replaced keeps its length and the values outside the range.
 pub with_range-keeps : {X : Type 0} (xs ws : List X) (start end : ℕ) → start ≤ end → end ≤ length xs → KeepsOutside start end xs (with_range xs start end ws)
 with_range-keeps xs ws start end order bound =
     let mid = slice_range xs start end in
     put-keeps xs (refill (length mid) mid ws) start end order bound (sym (length_refill (length mid) mid ws refl) ∙ omega (arith, length-take (end - start) (drop start xs), length-drop start xs))
 
--- so does a borrowed slice that ends as that list, whatever was left in the range
+-- A slice that ends as such a list keeps its length and its values outside the range.
 pub refilled-keeps : {X : Type 0} (xs ws : List X) (start end : ℕ) → start ≤ end → end ≤ length xs → KeepsOutside start end xs (refill (length xs) xs (with_range xs start end ws))
 refilled-keeps {X} xs ws start end order bound =
     let kept = with_range-keeps xs ws start end order bound in

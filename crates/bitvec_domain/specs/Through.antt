@@ -41,6 +41,7 @@ use Rattle.bitvec_domain.specs.Middle.{whole, lends_mid}
 module _ {M : Type 1} {𝓤 : Ura M} (𝓛 : Logic 𝓤) (T : RattleType) (ℓ' : Lifetime) (κ' : Lft) (h : MutBor (List T.Denot)) (b o : ℕ) where
   open 𝓛 use {A}
 
+  -- The type of the slice reference.
   abbrev pub Sl : RattleType
   Sl = MutSlice ℓ' κ' T
 
@@ -53,21 +54,26 @@ module _ {M : Type 1} {𝓤 : Ura M} (𝓛 : Logic 𝓤) (T : RattleType) (ℓ' 
   abbrev Cellˢ : Fml
   Cellˢ = cell_at full_share Sl.mir (mut_slice_vals h) b o
 
+  -- The reference's own cell and the room for its elements.
   abbrev pub Kept : SProp 𝓤
   Kept = sem 𝓛 (fsep Cellˢ (room T n))
 
+  -- The slice's elements are now `ws`, borrowed under its name, with what its cell keeps.
   abbrev pub Has : List T.Denot → SProp 𝓤
   Has ws = sep 𝓤 (A.obs h.ghost_name ((coded_list T.coded).code ws)) (sep 𝓤 (A.bor κ' (Held h.ghost_name)) Kept)
 
+  -- A memory of `n` elements of a type holds a list of `n` values.
   pub counts : (ws : List T.Denot) → ent 𝓤 (sem 𝓛 ((Arr (mem T) n).own_at ws h.ref_ptr.0 h.ref_ptr.1)) (guard 𝓤 (length ws ≡ n) (sem 𝓛 ((Arr (mem T) n).own_at ws h.ref_ptr.0 h.ref_ptr.1)))
   counts ws = qed 𝓛 (‵ ((Arr (mem T) n).own_at ws h.ref_ptr.0 h.ref_ptr.1) ∷ []) ∵ fsplit ! $ feq_l ! (λ e. check ! e $ feq_i ! ℕ (length ws) n e $ done !)
 
+  -- A slice reference in memory gives its borrow and what its cell keeps.
   pub slice_out : ent 𝓤 (sem 𝓛 (part_at Sl full_share h b o)) (Has h.now)
   unfolding part_of
   slice_out = qed 𝓛 (‵ (part_at Sl full_share h b o) ∷ []) ∵ fpick ! (λ vs. fsplit ! $ move ! (1 ∷ []) $ fsplit3 ! $ fsplit ! $ feq_l ! (λ e.
       rewrite ! 3 (λ (us : List Val). ‵ (cell_at full_share Sl.mir us b o)) e refl $
       rewrite ! 1 (λ (l : List T.Denot). ‵ (fobs h.ghost_name ((coded_list T.coded).code l))) (heres_id T h.now) refl $ move ! (1 ∷ 2 ∷ 3 ∷ 0 ∷ []) $ done !))
 
+  -- A borrow with a list of the same length, and what the cell keeps, give the slice reference back.
   pub slice_in : (ws : List T.Denot) → length ws ≡ n → ent 𝓤 (Has ws) (sem 𝓛 (part_at Sl full_share (at_last h ws) b o))
   unfolding part_of
   slice_in ws e = qed 𝓛 (‵ (fobs h.ghost_name ((coded_list T.coded).code ws)) ∷ ‵ (fbor κ' (Held h.ghost_name)) ∷ ‵ (fsep Cellˢ (room T n)) ∷ []) ∵
@@ -77,15 +83,17 @@ module _ {M : Type 1} {𝓤 : Ura M} (𝓛 : Logic 𝓤) (T : RattleType) (ℓ' 
       move ! (2 ∷ []) $ fsplit ! $ move ! (1 ∷ []) $ feq_i ! (List Val) (mut_slice_vals (at_last h ws)) (mut_slice_vals (at_last h ws)) refl $ fjoin ! $ move ! (0 ∷ 2 ∷ 3 ∷ []) $ fjoin3 ! $ move ! (1 ∷ 0 ∷ []) $ fjoin ! $
       fpack ! (List Val) (λ us. fsep (cell_at full_share Sl.mir us b o) (Sl.own_val (at_last h ws) us)) (mut_slice_vals (at_last h ws)) $ done !
 
--- the fields after the first
+-- The fields behind the first one.
 abbrev pub tail : List Field → List Field
 tail [] = []
 tail (F ∷ Fs) = Fs
 
 module _ (X : RattleType) (a : NamedLft) (ν : Sym) (args : List Lifetime) (types : List RattleType) (Fs : List Field) where
+  -- The struct's fields: an exclusive slice of `X`, and the fields `Fs`.
   abbrev pub parts : List Field
   parts = row_field (MutSlice a.mir a.lft X) ∷ Fs
 
+  -- The struct with its ghost fields let go.
   abbrev pub Flat : Declared
   Flat = record {
     name = ν;
@@ -149,9 +157,11 @@ module _ {M : Type 1} {𝓤 : Ura M} (𝓛 : Logic 𝓤) (X : RattleType) (a : N
     lends_held : (q : Share) → ent 𝓤 (sep 𝓤 (A.obs γ (R.coded.code s)) (sep 𝓤 (A.bor κ (Body (mem R) b o γ)) (A.lft κ q))) (H.⇛ (ex 𝓤 (Gone q)))
     lends_held q = hands_through 𝓛 (mem R) (Arr (mem X) (length h.now)) (F s) κ a.lft inc b o h.ref_ptr.0 h.ref_ptr.1 γ h.ghost_name Around (λ ws. length ws ≡ length h.now) (counts 𝓛 X a.mir a.lft h b (o + 0)) back q s h.now cut
 
+    -- The slice is lent under the new name, and the struct's name follows it.
     abbrev pub Lent : Share → GName → SProp 𝓤
     Lent q γ' = sep 𝓤 (sem 𝓛 ((MutSlice ℓ κ X).own_val (renamed h γ') (mut_slice_vals h))) (sep 𝓤 (A.lft κ q) (sem 𝓛 (follows R (Array X 0) γ γ' (F s))))
 
+    -- A borrowed struct may lend the slice that its first field points at.
     pub lends_slice : Room X (length h.now) → (q : Share) → ent 𝓤 (sep 𝓤 (A.obs γ (R.coded.code s)) (sep 𝓤 (A.bor κ (Body (mem R) b o γ)) (A.lft κ q))) (H.⇛ (ex 𝓤 (Lent q)))
     lends_slice rm q =
         qed 𝓛 (‵ (fobs γ (R.coded.code s)) ∷ ‵ (fbor κ (Body (mem R) b o γ)) ∷ ‵ (flft κ q) ∷ []) ∵ updating ! $
@@ -162,9 +172,11 @@ module _ {M : Type 1} {𝓤 : Ura M} (𝓛 : Logic 𝓤) (X : RattleType) (a : N
       abbrev from : ℕ
       from = at h.ref_ptr.1 (mem X).size (length front)
 
+      -- The slice's middle is lent under the new name, and the struct's name follows it.
       abbrev pub LentPart : Share → GName → SProp 𝓤
       LentPart q δ = sep 𝓤 (sem 𝓛 ((MutSlice ℓ κ X).own_val (record { ref_ptr = (h.ref_ptr.0, from); ghost_name = δ; now = mid }) (slice_val (h.ref_ptr.0, from) (length mid) ∷ []))) (sep 𝓤 (A.lft κ q) (sem 𝓛 (follows R (Array X 0) γ δ (λ ws. F s (whole front mid rest ws)))))
 
+      -- A borrowed struct may lend the middle of the slice that its first field points at.
       pub lends_part_of : Room X (length mid) → (q : Share) → ent 𝓤 (sep 𝓤 (A.obs γ (R.coded.code s)) (sep 𝓤 (A.bor κ (Body (mem R) b o γ)) (A.lft κ q))) (H.⇛ (ex 𝓤 (LentPart q)))
       lends_part_of rm q =
           qed 𝓛 (‵ (fobs γ (R.coded.code s)) ∷ ‵ (fbor κ (Body (mem R) b o γ)) ∷ ‵ (flft κ q) ∷ []) ∵ updating ! $

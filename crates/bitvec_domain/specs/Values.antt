@@ -11,18 +11,18 @@ use Rattle.bitvec_domain.specs.Parts.{SeenPart}
 use Rattle.bitvec_domain.specs.declared.values.DomainValues.{DomainValues}
 
 module _ {T : Type 0} (b : ℕ) (at : ℕ → ℕ → ℕ) (value : T → ℕ) where
-  -- a part's element with 0 outside the part, if there is one
+  -- The number of a part's element with 0 at each bit outside the part, if there is a part.
   abbrev pub numbers_if : Option SeenPart → List ℕ
   numbers_if None = []
   numbers_if (Some part) = bit_and part.number (mask_of (at b) part.head part.tail) ∷ []
 
-  -- those of the pieces, one piece after the other
+  -- The numbers of all pieces' elements, one piece after the other.
   abbrev pub numbers_of_pieces : DomainPieces T → List ℕ
   numbers_of_pieces (enclave part) = numbers_if (Some part)
   numbers_of_pieces (region head body tail) = numbers_if head ++ (map value body ++ numbers_if tail)
 
 module _ {T O : Type 0} {t : Store T} {o : Order O} where
-  -- those that are still to come
+  -- The numbers of the elements that a walk over a domain's values has still to give.
   abbrev pub values_left : DomainValues T O t o → List ℕ
   values_left it = numbers_of_pieces t.BITS o.at t.value (region (seen_part_if it.head) it.body.now (seen_part_if it.tail))
 

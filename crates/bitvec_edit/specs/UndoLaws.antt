@@ -1,4 +1,4 @@
--- Laws of two edits of which the second undoes the first: the memory is as it was.
+-- Laws of two edits of a view, the second of which undoes the first: the memory is as it was.
 use Rattle.std.specs.Prelude.{◌≡◌, ℕ, ◌≤◌, Bool, not, List, length, map, reverse}
 use Rattle.std.proofs.Common.{sym, ◌∙◌, ap}
 use Rattle.std.proofs.lemmas.List.{reverse-reverse}
@@ -15,7 +15,7 @@ use Rattle.bitvec_slice.specs.Writes.{WritesBits}
 use Rattle.bitvec_slice.specs.declared.view_mut.BitSliceMut.{BitSliceMut}
 
 module _ {T O : Type 0} {t : Store T} {o : Order O} (first second last : BitSliceMut T O t o) where
-  -- an edit that brings the view's first bits back brings its memory back
+  -- Two edits leave the memory as it was where the second one gives the view its first bits again.
   pub undone : (x y : List Bool) → WritesBits first second x → WritesBits second last y → y ≡ (seen_mut first).bits → (seen_mut last).memory ≡ (seen_mut first).memory
   undone x y one two back =
       let m = (seen_mut first).memory in
@@ -25,14 +25,14 @@ module _ {T O : Type 0} {t : Store T} {o : Order O} (first second last : BitSlic
       ∙ ap (λ (new : List Bool). write_window (write_window m w x) w new) back
       ∙ window-rewritten m w x (seen_mut first).bits (within-seen_mut first) x-long (length-seen_mut first) ∙ window-kept m w (within-seen_mut first)
 
-  -- `reverse` twice, and `!` twice, leave the memory as it was.
+  -- Reversing the bits of a view twice leaves its memory as it was.
   pub reversed-back : WritesBits first second (reverse (seen_mut first).bits) → WritesBits second last (reverse (seen_mut second).bits) → (seen_mut last).memory ≡ (seen_mut first).memory
   reversed-back one two = undone _ _ one two (ap reverse one.bits ∙ reverse-reverse (seen_mut first).bits)
 
-  -- `reverse` twice, and `!` twice, leave the memory as it was.
+  -- Inverting each bit of a view twice leaves its memory as it was.
   pub inverted-back : WritesBits first second (map not (seen_mut first).bits) → WritesBits second last (map not (seen_mut second).bits) → (seen_mut last).memory ≡ (seen_mut first).memory
   inverted-back one two = undone _ _ one two (ap (map not) one.bits ∙ flip-undoes (seen_mut first).bits)
 
-  -- `rotate_left` by `k` and then `rotate_right` by `k` leave the memory as it was.
+  -- Rotating a view left by `k` bits and then right by `k` bits leaves its memory as it was.
   pub rotated-back : (k : ℕ) → k ≤ length (seen_mut first).bits → WritesBits first second (rotated_left k (seen_mut first).bits) → WritesBits second last (rotated_right k (seen_mut second).bits) → (seen_mut last).memory ≡ (seen_mut first).memory
   rotated-back k inside one two = undone _ _ one two (ap (rotated_right k) one.bits ∙ rotated_right-undoes k (seen_mut first).bits inside)

@@ -2,7 +2,7 @@
 use Rattle.std.specs.Prelude.{◌≢◌, ℕ, ◌<◌, ◌≤◌, min, Bool, false, List, length, slice_index_or}
 use Rattle.bitvec_base.specs.CompareLaws.{SameBelow}
 
--- the lists have the same bits below n, and none behind or others there
+-- The two lists have the same bits below `n`, and differ at `n`, or one of them ends there.
 pub record DiffersFrom (xs ys : List Bool) (n : ℕ) : Type 0 where
   pub same : SameBelow xs ys n
   pub bound : n ≤ min (length xs) (length ys)

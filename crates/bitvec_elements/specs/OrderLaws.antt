@@ -13,19 +13,20 @@ bit_ties false true = refl
 bit_ties true false = refl
 bit_ties true true = refl
 
--- two lists have the same bits exactly where they compare as equal
+-- Two lists have the same bits exactly where their lexicographic comparison says equal.
 pub same_bits-ties : (xs ys : List Bool) → same_bits xs ys ≡ eq_by_cmp (slice_cmp bool_cmp) xs ys
 same_bits-ties = lists_ties bool_cmp bit_ties
 
 bits_total : IsTotalOrder (slice_cmp bool_cmp)
 bits_total = lists_total bool_cmp_total
 
--- compared the other way round they compare as the reverse
+-- Comparing two lists in the other order gives the reverse answer.
 pub cmp-back : (xs ys : List Bool) → slice_cmp bool_cmp xs ys ≡ ordering_reverse (slice_cmp bool_cmp ys xs)
 cmp-back = bits_total.antisymm
 
--- a list that is less than one that is less than a third is less than the third
+-- A list that is less than a second, which is less than a third, is less than the third.
 pub cmp-on : (xs ys zs : List Bool) → slice_cmp bool_cmp xs ys ≡ Less → slice_cmp bool_cmp ys zs ≡ Less → slice_cmp bool_cmp xs zs ≡ Less
 cmp-on = bits_total.trans
 
+-- These laws tell that the comparison of bit lists agrees with their equality, reverses, and is transitive.
 pub ruleset ordered = (same_bits-ties, cmp-back, cmp-on)

@@ -4,27 +4,28 @@ use Rattle.std.specs.Int.{div_ceil}
 use Rattle.bitvec_cells.specs.declared.cells.CellsRead.{Ghosts as Access}
 use Rattle.bitvec_cells.specs.Access.{CostsAtMost, OnlyReadsAtMost}
 
--- the bit at an index of an element of b bits: from the least significant one up, and from the most significant one down
+-- The number of the bit at an index of an element of `b` bits under `Lsb0`: the least significant bit comes first.
 abbrev pub lsb0_at : ℕ → ℕ → ℕ
 lsb0_at b i = i
 
+-- The number of the bit at an index of an element of `b` bits under `Msb0`: the most significant bit comes first.
 abbrev pub msb0_at : ℕ → ℕ → ℕ
 msb0_at b i = b - 1 - i
 
--- the elements of b bits that 64 bits can touch
+-- The greatest number of elements of `b` bits that 64 consecutive bits can touch.
 abbrev pub word_span : ℕ → ℕ
 word_span b = div_ceil 64 b + 1
 
 -- what n steps may take of a memory of elements of b bits
 module _ {E C : Type 0} (access : Access C E) (old new : C) (b n : ℕ) where
-  -- where it is read: as many loads a step, and every element stays
+  -- Nothing was stored, and `n` word steps loaded at most as many elements as 64 bits can touch in each.
   abbrev pub ReadsInSteps : Type 0
   ReadsInSteps = OnlyReadsAtMost access old new (n * word_span b)
 
-  -- where it is written: two loads a step, and as many stores
+  -- Each of `n` word steps made at most two loads, and stored at most as many elements as 64 bits can touch.
   abbrev pub WritesInSteps : Type 0
   WritesInSteps = CostsAtMost access old new (n * 2) (n * word_span b)
 
-  -- where it is read and written
+  -- Each of `n` word steps loaded at most as many elements as 64 bits can touch and two more, and stored at most as many.
   abbrev pub EditsInSteps : Type 0
   EditsInSteps = CostsAtMost access old new (n * word_span b + n * 2) (n * word_span b)

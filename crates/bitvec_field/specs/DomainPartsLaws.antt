@@ -190,7 +190,7 @@ module _ {T : Type 0} (b : ℕ) (at : ℕ → ℕ → ℕ) (value : T → ℕ) (
       λ i. head i ++ (body-lists start end i ++ tail i)
 
 module _ {T : Type 0} (b : ℕ) (at : ℕ → ℕ → ℕ) (value : T → ℕ) (view : Seen T) where
-  -- The bits of a domain's parts are the segments of the view's bits.
+  -- The bits of a domain's parts, element by element, are the segments of the view's bits.
   pub domain-segments : (pieces : DomainPieces T) → 0 < b → ShowsElements b at value view → IsDomain b at value view pieces
       → lists_of_pieces b at value pieces ≡ segments b view.window.start view.bits
   domain-segments pieces some shows is =

@@ -27,6 +27,6 @@ by_sum : (b j n : ℕ) (z : ℤ) → b ≡ j + n → remainder_of b z % 2 ^ n �
 by_sum b j n (pos v) is = rw is (low_bits v j n)
 by_sum b j n (negsuc v) is = rw is (low_left v j n)
 
--- the remainder by a power of two, of that by a greater one
+-- The remainder by `2^n` of an integer's remainder by a greater power of two is the integer's remainder by `2^n`.
 pub remainder-narrow : (b n : ℕ) (z : ℤ) → n ≤ b → remainder_of b z % 2 ^ n ≡ remainder_of n z
 remainder-narrow b n z narrow = by_sum b (b - n) n z (omega arith)

@@ -19,7 +19,7 @@ module _ {T O : Type 0} {t : Store T} {o : Order O} where
   abbrev pub name_of_halves : HalvesMut T O t o → GName
   name_of_halves h = h.elements.ghost_name
 
-  -- the halves are the view's, and meet at this index
+  -- The halves are those of the view, and meet at the index `mid`.
   pub record IsCutOf (all : Seen T) (mid : ℕ) (h : HalvesMut T O t o) : Type 0 where
     pub view : seen_halves h ≡ all
     pub cut : mid_of h ≡ mid

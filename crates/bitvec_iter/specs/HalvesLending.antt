@@ -1,4 +1,4 @@
--- What two halves of a view end as, where one was lent.
+-- What two halves of a view end as where one was lent.
 use Rattle.std.specs.Prelude.{ℕ, ◌+◌, ◌*◌, ◌≤◌, List}
 use Rattle.std.specs.Borrow.{Fml, GName, MutBor, RattleType, Array, follows}
 use Rattle.std.proofs.Common.{subst}
@@ -20,11 +20,11 @@ module _ {T O : Type 0} {t : Store T} {o : Order O} where
         bounded = subst (λ (n : ℕ). t.BITS * n ≤ max_bits) (length_refilled h.elements xs) h.bounded;
       }
 
--- the elements from `start` up to `end` were lent under this name, and the halves end with what is left there and their other elements
+-- The elements from `start` up to `end` were lent under this name, and the halves end with what is left there and the others.
 abbrev pub lends_part : (T O : RattleType) {t : Store T.Denot} {o : Order O.Denot} → MutBor (HalvesMut T.Denot O.Denot t o) → ℕ → ℕ → GName → Fml
 lends_part T O {t} {o} h start end name =
     follows (the_row of_lender T O t o) (Array T 0) h.ghost_name name (λ ws. with_elements h.now (with_range h.now.elements.now start end ws))
 
--- those were lent so that the bits from the index `from` up to `to` touch
+-- The elements that the bits from the index `from` up to `to` touch were lent under this name.
 abbrev pub lends_bits : (T O : RattleType) {t : Store T.Denot} {o : Order O.Denot} → MutBor (HalvesMut T.Denot O.Denot t o) → ℕ → ℕ → GName → Fml
 lends_bits T O {t} {o} h from to name = lends_part T O h (first_touched t.BITS (h.now.head + from)) (end_touched t.BITS (h.now.head + to)) name

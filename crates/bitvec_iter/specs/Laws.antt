@@ -2,5 +2,5 @@
 use Rattle.std.proofs.iter.Rest.{run_of_first, run_of_first_by, run_of_last, run_of_last_by}
 use Rattle.std.proofs.lemmas.Grind.{common_steps}
 
--- what std's adapters make of a walk: the items of a run, one after the other, are those that were to come
+-- These laws tell what std's adapters make of a walk: the items of a run are those that were to come, in order.
 pub ruleset walked = (run_of_first, run_of_first_by, run_of_last, run_of_last_by, common_steps)

@@ -1,4 +1,4 @@
--- What a walk over the pieces of a view has still to give.
+-- What a walk over the pieces of a view, such as `chunks` of `bitvec`, has still to give.
 use Rattle.std.specs.Prelude.{◌≡◌, ℕ, List, Option}
 use Rattle.std.specs.Iterator.{YieldsFirstBy, YieldsLastBy}
 use Rattle.std.specs.Iterator.Runs.{EveryRun, ItemsMapTo, ItemsMapToReversed}
@@ -13,15 +13,15 @@ use Rattle.bitvec_iter.specs.Parts.{subview}
 use Rattle.bitvec_iter.specs.declared.pieces.Pieces.{Pieces}
 
 module _ {T O C : Type 0} {t : Store T} {o : Order O} {c : Cutting C} where
-  -- the view that is walked, and how it is cut
+  -- The view over whose pieces the walk goes.
   abbrev pub walked : Pieces T O C t o c → Seen T
   walked walk = seen walk.view
 
-  -- `walked it`, `index_range it`, `cut_by it`: the view, the indices, the way to cut.
+  -- The way in which the walk cuts its view.
   abbrev pub cut_by : Pieces T O C t o c → C
   cut_by walk = walk.cutting
 
-  -- the piece of a number
+  -- The piece with this number.
   abbrev pub piece_at : Pieces T O C t o c → ℕ → Seen T
   piece_at walk number = subview t.BITS (seen walk.view) (c.place walk.cutting (seen walk.view).window.len number)
 
@@ -29,20 +29,20 @@ module _ {T O C : Type 0} {t : Store T} {o : Order O} {c : Cutting C} where
   unfoldable pub pieces_left : Pieces T O C t o c → List (Seen T)
   pieces_left it = walk (piece_at it) it.numbers.start it.numbers.end
 
-  -- it walks the same view, cut in the same way
+  -- The walk goes on over the same view, cut in the same way.
   pub record KeepsView (before after : Pieces T O C t o c) : Type 0 where
     pub view : walked after ≡ walked before
     pub cutting : cut_by after ≡ cut_by before
 
-  -- a call gave the first, or the last, of the pieces that were still to come and left the others, or gave `None` where there were none
+  -- A call gave the first of the pieces still to come and left the others, or gave `None` where there were none.
   abbrev pub TakesFirst : Pieces T O C t o c → Option (BitSlice T O t o) → Pieces T O C t o c → Type 0
   TakesFirst before piece after = YieldsFirstBy (seen {t = t} {o = o}) pieces_left before piece after × KeepsView before after
 
-  -- `TakesFirst`, `TakesLast`: what one call does.
+  -- A call gave the last of the pieces still to come and left the others, or gave `None` where there were none.
   abbrev pub TakesLast : Pieces T O C t o c → Option (BitSlice T O t o) → Pieces T O C t o c → Type 0
   TakesLast before piece after = YieldsLastBy (seen {t = t} {o = o}) pieces_left before piece after × KeepsView before after
 
-  -- what such calls give, one after the other, is what is still to come, in its order, or from its end
+  -- What calls of `next`, or of `next_back`, give is the pieces still to come, in their order, or from the end.
   pub record YieldsPieces (it : Pieces T O C t o c) : Type 0 where
     pub front : EveryRun TakesFirst (λ p. ItemsMapTo p seen (pieces_left p.from))
     pub back : EveryRun TakesLast (λ p. ItemsMapToReversed p seen (pieces_left p.from))

@@ -14,20 +14,21 @@ pub record BitsLeft (T : Type 0) : Type 0 where
   pub back : ℕ
 
 module _ {T : Type 0} where
-  -- all of the view's
+  -- The walk has all bits of the view left.
   pub record IsAllOf (all : Seen T) (walk : BitsLeft T) : Type 0 where
     pub view : walk.view ≡ all
     pub front : walk.front ≡ 0
     pub back : walk.back ≡ all.window.len
 
-  -- the first that is left, or where one past the last is
+  -- The index of the first bit left, or the walk's end where none is left.
   abbrev pub start_of : BitsLeft T → ℕ
   start_of walk = min walk.front walk.back
 
-  -- the bits that a walk has left, and those that stand in their places once it is `after`
+  -- The bits that the walk has left.
   abbrev pub bits_to_come : BitsLeft T → List Bool
   bits_to_come walk = slice_range walk.view.bits (start_of walk) walk.back
 
+  -- The bits that stand, once the walk is `after`, where its bits left stood.
   abbrev pub bits_in_place : BitsLeft T → BitsLeft T → List Bool
   bits_in_place walk after = slice_range after.view.bits (start_of walk) walk.back
 
@@ -41,17 +42,19 @@ module _ {T : Type 0} where
     pub front : after.front ≡ walk.back
     pub back : after.back ≡ walk.back
 
-  -- the walk without its first bits, of which it has as many or fewer, and without its last ones
+  -- The walk without its first `count` bits, or without all where it has fewer.
   abbrev pub past_bits : BitsLeft T → ℕ → BitsLeft T
   past_bits walk count = record walk { front = walk.front + min count (walk.back - walk.front) }
 
+  -- The walk without its last `count` bits, or without all where it has fewer.
   abbrev pub past_back_bits : BitsLeft T → ℕ → BitsLeft T
   past_back_bits walk count = record walk { back = walk.back - min count (walk.back - walk.front) }
 
 module _ {T O : Type 0} {t : Store T} {o : Order O} where
+  -- What contracts see of a writable walk over single bits: its view, and the indices left.
   abbrev pub bit_walk_of : IterMut T O t o → BitsLeft T
   bit_walk_of i = record { view = shown t.BITS o.at t.value i.elements.now i.head i.len; front = i.front; back = i.back }
 
-  -- which memory it borrows, by its name among borrows
+  -- The name among borrows of the memory that the walk borrows.
   abbrev pub name_of_bits : IterMut T O t o → GName
   name_of_bits i = i.elements.ghost_name

@@ -24,10 +24,11 @@ module _ {T O : Type 0} {N : ℕ} {t : Store T} {o : Order O} (a : BitArray T O 
   fits : t.BITS * length (elements_of a) ≤ max_bits
   fits = let product = mul-le-mul_left t.BITS few in let bound = a.bounded in omega arith
 
+  -- A view of all bits of an array shows its elements.
   pub array_elements : ShowsElements t.BITS o.at t.value (in_array a)
   array_elements = shows_elements t.BITS o.at t.value (elements_of a) 0 (t.BITS * length (elements_of a)) (omega arith) fits
 
-  -- what was written is told by a slice and a window that are the array's
+  -- A write told of elements and a window that are the array's writes the array.
   pub array_written : (now elements : List T) (window : Window) (made new : List Bool) → Writes t.BITS o.at (map t.value elements) (map t.value now) window made
       → elements ≡ (in_array a).elements → window ≡ (in_array a).window → made ≡ new → WritesArray a (with_elements a now) new
   array_written now elements window made new writes same place is =
@@ -47,5 +48,6 @@ module _ {T O : Type 0} {N : ℕ} {t : Store T} {o : Order O} (a : BitArray T O 
         length = ap (λ (s : Seen T). length s.elements) left ∙ count;
       }
 
+-- An array that was written with `new` has the bits `new`.
 pub has_written : {T O : Type 0} {N : ℕ} {t : Store T} {o : Order O} (before after : BitArray T O N t o) (new : List Bool) → WritesArray before after new → (in_array after).bits ≡ new
 has_written before after new wrote = wrote.bits

@@ -1,4 +1,4 @@
--- What an owned sequence ends as, where its bits were lent.
+-- What an owned sequence ends as where its bits were lent.
 use Rattle.std.specs.Prelude.{List}
 use Rattle.std.specs.Borrow.{Fml, GName, MutBor, RattleType, Array, follows}
 use Rattle.std.specs.Vec.{with_items}

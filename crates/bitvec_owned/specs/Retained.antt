@@ -1,4 +1,4 @@
--- What is left of a list of bits, of which a predicate is asked which to keep.
+-- What is left of a list of bits when a predicate is asked about each whether to keep it.
 use Rattle.std.specs.Prelude.{◌≡◌, ℕ, ◌+◌, Bool, List}
 use Rattle.std.specs.Borrow.{Bor}
 use Rattle.std.specs.Fn.{Mut}

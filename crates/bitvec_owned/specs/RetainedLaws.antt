@@ -32,11 +32,11 @@ module _ {P : Type 0} (g : Mut P (ℕ × (Bor Bool × Unit {0})) Bool) where
         kept answers list asked.0 last call.0 (omega (arith, long)) asked.2 ∙ ap (λ (k : ℕ). kept_by test k list) asked.1.0 in
         picked answer answers bit list ∙ (λ i. cond (call.1 i) (bit ∷ rest i) (rest i))
 
-    -- a predicate that is a function of the index and the bit there keeps the bits of which that is true
+    -- A predicate that is a function of the index and the bit keeps the bits for which it is true.
     pub retained_by : (old new : List Bool) → Retains g pred old new → new ≡ kept_by test 0 old
     retained_by old new asked = asked.4 ∙ kept asked.0 old (0, pred) asked.1 refl asked.2 asked.3
 
-  -- one that is a function of the bit alone keeps them as std's `filter` does
+  -- A predicate that is a function of the bit keeps the bits that `filter` of std keeps.
   pub retained_filter : (test : Bool → Bool) (pred : P) → ((index : ℕ) (bit answer : Bool) (next : P) → Asks g pred index bit answer next → (next ≡ pred) × (answer ≡ test bit))
       → (old new : List Bool) → Retains g pred old new → new ≡ filter test old
   retained_filter test pred acts old new asked = retained_by (λ i bit. test bit) pred acts old new asked ∙ kept-filter test 0 old

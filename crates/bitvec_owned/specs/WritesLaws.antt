@@ -21,14 +21,15 @@ use Rattle.bitvec_owned.specs.Owned.{bit_capacity, owned, usable_bits}
 use Rattle.bitvec_owned.specs.Writes.{WritesOwned}
 use Rattle.bitvec_owned.specs.declared.bit_vec.BitVec.{BitVec}
 
--- lists as long as each other, seen through their numbers; and a list put in the place of one as long
+-- Lists whose values have equally many images are as long as each other.
 pub same_length : {X Y : Type 0} (f : X → Y) (xs ys : List X) → length (map f xs) ≡ length (map f ys) → length xs ≡ length ys
 same_length f xs ys same = let first = length-map xs f in let second = length-map ys f in omega arith
 
+-- A list of `n` values, filled up with old ones, has itself as its first `n` values.
 pub refilled : {X : Type 0} (xs old : List X) (n : ℕ) → length xs ≡ n → take n (xs ++ drop (length xs) old) ≡ xs
 refilled xs old n long = take_at xs (drop (length xs) old) n long
 
--- elements for which there is memory hold the bits that touch them
+-- The elements for which a sequence has memory hold the bits up to `end`.
 pub held-usable : (b end n capacity : ℕ) → 0 < b → n ≡ div_ceil end b → n ≤ capacity → b * n ≤ max_bits → end ≤ usable_bits b capacity
 held-usable b end n capacity some touched room bounded =
     let rounded = div_ceil_times end b some in
@@ -39,10 +40,11 @@ held-usable b end n capacity some touched room bounded =
 
 module _ {T : Type 0} (b : ℕ) (at : ℕ → ℕ → ℕ) (value : T → ℕ) (old new : List T) (start len : ℕ) (list : List Bool) (inside : start + len ≤ b * length old)
     (wrote : Writes b at (map value old) (map value new) (shown b at value old start len).window list) where
+  -- The elements after a write are as many as before.
   pub many : length new ≡ length old
   many = same_length value new old wrote.elements
 
-  -- The bits of a range beside an edit are as before.
+  -- The bits in the window after a write are the written list.
   pub bits-written : (shown b at value new start len).bits ≡ list
   bits-written =
       let within = within_memory b at value old start len inside in
@@ -79,26 +81,29 @@ module _ {T : Type 0} (b : ℕ) (at : ℕ → ℕ → ℕ) (value : T → ℕ) (
       }
 
 module _ {T O A : Type 0} {t : Store T} {o : Order O} (some : 0 < t.BITS) (v : BitVec T O A t o) where
+  -- The bits of an owned sequence lie in its elements.
   pub inside : v.head + v.len ≤ t.BITS * length v.elements.items
   inside =
       let rounded = div_ceil_times (v.head + v.len) t.BITS some in
       let touched = v.touched in
       rw (sym v.elements.ok.0, touched) (omega arith)
 
+  -- An owned sequence has as many bits as its length says.
   pub length-owned : length (owned v).bits ≡ v.len
   length-owned = length_bits t.BITS o.at t.value v.elements.items v.head v.len inside
 
-  -- it has memory for its bits
+  -- An owned sequence has memory for all of its bits.
   pub owned-room : (owned v).window.len ≤ bit_capacity v
   owned-room =
       let held = held-usable t.BITS (v.head + v.len) (vec_len v.elements) (vec_capacity v.elements) some v.touched v.elements.ok.1 v.bounded in
       omega arith
 
+  -- A view of all bits of an owned sequence shows its elements.
   pub sequence_elements : ShowsElements t.BITS o.at t.value (owned v)
   sequence_elements =
       shows_elements t.BITS o.at t.value v.elements.items v.head v.len inside (subst (λ (n : ℕ). t.BITS * n ≤ max_bits) v.elements.ok.0 v.bounded)
 
-  -- what was written is told by a slice and a window that are the sequence's
+  -- A write told of elements and a window that are the sequence's writes the sequence.
   pub sequence_written : (now elements : List T) (window : Window) (made new : List Bool) → Writes t.BITS o.at (map t.value elements) (map t.value now) window made
       → elements ≡ (owned v).elements → window ≡ (owned v).window → made ≡ new → WritesOwned v (with_elements v now) new
   sequence_written now elements window made new writes same place is =
@@ -117,5 +122,6 @@ module _ {T O A : Type 0} {t : Store T} {o : Order O} (some : 0 < t.BITS) (v : B
         holds = λ list from held. subst (Holds t.BITS new from) (sym left) (holds-then t.BITS o.at t.value old now v.head v.len new inside wrote list from held);
       }
 
+-- A sequence that was written with `new` has the bits `new`.
 pub has_written : {T O A : Type 0} {t : Store T} {o : Order O} (before after : BitVec T O A t o) (new : List Bool) → WritesOwned before after new → (owned after).bits ≡ new
 has_written before after new wrote = wrote.bits

@@ -10,15 +10,14 @@ use Rattle.bitvec_query.specs.declared.places.Places.{Places}
 use Rattle.bitvec_query.specs.declared.wanted.Wanted.{Ghosts as Bits}
 
 module _ {T O W : Type 0} {t : Store T} {o : Order O} {w : Bits W} where
-  -- the indices that are left
+  -- The indices of the wanted bit that a walk, such as `iter_ones` of `bitvec`, has still to give.
   unfoldable pub remaining_indices : Places T O W t o w → List ℕ
   remaining_indices walk = places_left w.BIT (seen walk.view).bits walk.rest
 
-  -- calls give them in order from the front, and in reverse from the back
+  -- Calls of `next` give the indices still to come in order.
   abbrev pub RunsInOrder : Places T O W t o w → Type 0
   RunsInOrder walk = YieldsInOrder (YieldsFirst remaining_indices) remaining_indices
 
-  -- `YieldsBits`, `YieldsPieces`, `RunsInOrder`, `RunsInReverse`: calls of `next` and `next_back` give what is left, in order and from
-  -- the end.
+  -- Calls of `next_back` give the indices still to come from the last one down.
   abbrev pub RunsInReverse : Places T O W t o w → Type 0
   RunsInReverse walk = YieldsInReverse (YieldsLast remaining_indices) remaining_indices

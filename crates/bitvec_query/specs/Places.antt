@@ -8,16 +8,16 @@ use Rattle.bitvec_query.specs.declared.rest.Rest.{Rest}
 unfoldable pub places_in : Bool → List Bool → ℕ → ℕ → List ℕ
 places_in wanted list from to = filter (λ i. beq (slice_index_or list i false) wanted) (range_with_len from (to - from))
 
--- those of the rest
+-- The places in the rest whose bit is the wanted one, in their order.
 abbrev pub places_left : Bool → List Bool → Rest → List ℕ
 places_left wanted list rest = places_in wanted list rest.front rest.back
 
--- the rest is of n places
+-- The rest is a range of a list of `n` bits.
 pub record IsRestOf (rest : Rest) (n : ℕ) : Type 0 where
   pub order : rest.front ≤ rest.back
   pub bound : rest.back ≤ n
 
--- what is left of the rest begins where that did, ends no later, and is of n places
+-- What is left begins where the rest did, ends no later, and is a range of a list of `n` bits.
 pub record ShortensBack (rest left : Rest) (n : ℕ) : Type 0 where
   pub inside : IsRestOf left n
   pub front : left.front ≡ rest.front

@@ -11,10 +11,10 @@ turns_give values [] = []
 turns_give values (Front ∷ turns) = slice_get values 0 ∷ turns_give (drop 1 values) turns
 turns_give values (Back ∷ turns) = last_or None values ∷ turns_give (take (length values - 1) values) turns
 
--- a turn from this end gives so, and leaves these values to the turns after it
+-- A turn at this end gives `given`, and the turns after it go on with the values `left`.
 abbrev pub TurnGives : {X : Type 0} → List X → End → Option X → List X → Type 0
 TurnGives values end given left = (turns : List End) → turns_give values (end ∷ turns) ≡ given ∷ turns_give left turns
 
--- how many values are given
+-- How many turns gave a value.
 abbrev pub count_given : {X : Type 0} → List (Option X) → ℕ
 count_given given = count_by is_some given

@@ -7,6 +7,6 @@ use Rattle.std.specs.Int.{bit_at}
 unfoldable pub word_ones : ℕ → List ℕ
 word_ones word = filter (λ i. bit_at word i == 1) (range_with_len 0 64)
 
--- the indices of these bits under an order, ascending
+-- The indices, under an order, of the bits of a word that are 1, ascending.
 unfoldable pub order_ones : (ℕ → ℕ → ℕ) → ℕ → List ℕ
 order_ones at word = filter (λ i. bit_at word (at 64 i) == 1) (range_with_len 0 64)

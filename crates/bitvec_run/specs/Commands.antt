@@ -19,19 +19,20 @@ use Rattle.bitvec_run.specs.Rows.{CommandRow, asks, edits, both, unless, or_else
 
 -- ---- the conditions that commands share
 
+-- A command is refused where its index isn't below `m`.
 abbrev pub index_refusal : ℕ → ℕ → Option Refusal
 index_refusal m i = unless (nat_lt i m) Refusal.Index
 
+-- A command is refused where its amount is more than `m`.
 abbrev pub amount_refusal : ℕ → ℕ → Option Refusal
 amount_refusal m k = unless (nat_le k m) Refusal.Amount
 
--- the right window lies in the right list
+-- A command is refused where its window doesn't lie in the right list.
 abbrev pub right_refusal : List Bool → Window → Option Refusal
 right_refusal right window = unless (lies_in window (length right)) Refusal.Right
 
 -- ---- the commands
--- `op_row right m op` (`Commands`): all that a command means on `m` bits: its refusal, its cost by place, its reply and new list by the
--- list.
+-- What a command means on a list of `m` bits: its refusal, its cost, its reply and the list that it leaves.
 abbrev pub op_row : List Bool → ℕ → Op → CommandRow
 op_row right m (Get i) = asks (index_refusal m i) (λ list. Bit (slice_index_or list i false)) (accesses 1 0)
 op_row right m (Set i bit) = edits (index_refusal m i) (λ list. slice_set list i bit) (accesses 1 1)
@@ -72,6 +73,6 @@ op_row right m LastZero = asks None (λ list. Reply.Index (last_place false list
 op_row right m Any = asks None (λ list. Bit (list_any (λ bit. bit) list)) (scan_cost m)
 op_row right m All = asks None (λ list. Bit (list_all (λ bit. bit) list)) (scan_cost m)
 
--- why it is refused, if it is
+-- Why a command on a list of `m` bits is refused, if it is.
 abbrev pub op_refusal : List Bool → ℕ → Op → Option Refusal
 op_refusal right m op = (op_row right m op).refusal

@@ -12,13 +12,13 @@ use Rattle.bitvec_run.specs.Rows.{unless, or_else, range_lies, lies_in}
 
 -- ---- tests
 
--- a window that passes the test lies there, and the other way round
+-- A window that passes the test lies within `n` places.
 pub lies_in-within : (window : Window) (n : ℕ) → lies_in window n ≡ true → IsWithin window n
 lies_in-within window n test =
     let parts = and_parts (nat_le window.start n) (nat_le window.len (n - window.start)) test in
     record { start = leb-true window.start n parts.0; len = leb-true window.len (n - window.start) parts.1 }
 
--- likewise a range
+-- A range that passes the test is in order and ends at most at `n`.
 pub range_lies-order : (n from to : ℕ) → range_lies n from to ≡ true → (from ≤ to) × (to ≤ n)
 range_lies-order n from to test =
     let parts = and_parts (nat_le from to) (nat_le to n) test in
@@ -26,10 +26,12 @@ range_lies-order n from to test =
 
 -- ---- refusals
 
+-- A test whose failure would be refused passes where nothing is refused.
 pub passed : (test : Bool) (refusal : Refusal) → unless test refusal ≡ None → test ≡ true
 passed true refusal none = refl
 passed false refusal none = cc
 
+-- Where neither of two refusals is given, neither condition is refused.
 pub both_passed : (first second : Option Refusal) → or_else first second ≡ None → (first ≡ None) × (second ≡ None)
 both_passed None second none = (refl, none)
 both_passed (Some refusal) second none = cc
@@ -43,6 +45,7 @@ amount-fits m k none = leb-true k m (passed _ _ none)
 right-fits : (right : List Bool) (window : Window) → right_refusal right window ≡ None → IsWithin window (length right)
 right-fits right window none = lies_in-within window (length right) (passed _ _ none)
 
+-- A command that isn't refused names only what its list has.
 pub fits_list : (right : List Bool) (m : ℕ) (op : Op) → op_refusal right m op ≡ None → FitsList m op
 fits_list right m (Get i) none = index-fits m i none
 fits_list right m (Set i bit) none = index-fits m i none
@@ -61,6 +64,7 @@ fits_list right m (CopyWithin from to dest) none =
 fits_list right m (CopyFrom window) none = eqb-true window.len m (passed _ _ (both_passed _ _ none).1)
 fits_list right m _ none = tt
 
+-- A command that isn't refused names only what the right list has.
 pub fits_right : (right : List Bool) (m : ℕ) (op : Op) → op_refusal right m op ≡ None → FitsRight (length right) op
 fits_right right m (CopyFrom window) none = right-fits right window (both_passed _ _ none).0
 fits_right right m (And window) none = right-fits right window none

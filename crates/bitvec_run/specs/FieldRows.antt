@@ -42,5 +42,6 @@ unfoldable pub field_step_row : Bool → ℕ → ℕ → List Bool → ℕ → F
 field_step_row high b s right n step =
     if range_lies n step.from step.to then on_range step.from step.to (field_row high b (s + step.from) right (step.to - step.from) step.op) else refused Refusal.Range
 
+-- What comes of a step with numbers: what its row says, unless it is refused.
 abbrev pub field_outcome : Bool → ℕ → ℕ → List Bool → ℕ → FieldStep → CommandRow
 field_outcome high b s right n step = outcome (field_step_row high b s right n step)

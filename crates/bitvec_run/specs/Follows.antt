@@ -10,6 +10,7 @@ use Rattle.bitvec_run.specs.Rows.{CommandRow}
 
 -- of the list that a window holds it answered and left what the row says, at no more than its cost
 module _ {E C : Type 0} (access : Access C E) where
+  -- The call replied, wrote and cost what the row says.
   pub record Follows (b : ℕ) (at : ℕ → ℕ → ℕ) (words : Bool) (row : CommandRow) (window : Window) (old new : C) (result : Reply) : Type 0 where
     pub reply : result ≡ row.reply (list_in b at (access.numbers old) window)
     pub writes : Writes b at (access.numbers old) (access.numbers new) window (row.list (list_in b at (access.numbers old) window))
@@ -23,6 +24,7 @@ module _ {E C : Type 0} (access : Access C E) where
 
 -- and it only read the right memory
 module _ {E C F D : Type 0} (access : Access C E) (beside : Access D F) where
+  -- The call followed the row, and only read the right memory, at no more than the row's cost.
   pub record FollowsBoth (b : ℕ) (at : ℕ → ℕ → ℕ) (words : Bool) (row : CommandRow) (window : Window) (old new : C) (right_old right_new : D) (result : Reply) : Type 0 where
     pub left : Follows access b at words row window old new result
     pub right : OnlyReadsAtMost beside right_old right_new (row.cost (place_of b words window)).right_loads

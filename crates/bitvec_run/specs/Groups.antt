@@ -14,6 +14,7 @@ pub data Group : Type 0 where
   Combine : Group
   Compare : Group
 
+-- The group of a command.
 abbrev pub group : Op → Group
 group (Set i bit) = Edit
 group (Replace i bit) = Edit

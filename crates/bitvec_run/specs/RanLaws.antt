@@ -17,21 +17,23 @@ use Rattle.bitvec_run.specs.Follows.{Follows, FollowsBoth}
 use Rattle.bitvec_run.specs.Rows.{CommandRow, row_list, row_reply}
 use Rattle.bitvec_run.specs.Runs.{RunsBy, whole_window}
 
--- all bits of a memory are its list
+-- The list of a memory's whole window is all bits of the memory.
 pub list-whole : (b : ℕ) (at : ℕ → ℕ → ℕ) (xs : List ℕ) → list_in b at xs (whole_window b xs) ≡ memory_bits b at xs
 unfolding window_of
 list-whole b at xs = let long = length-memory_bits b at xs in range-all (memory_bits b at xs) (0 + b * length xs) (omega arith)
 
+-- A memory of at most `max_bits` bits has its whole window.
 pub HasWindow-whole : (b : ℕ) (xs : List ℕ) → FitsMaxBits b xs → HasWindow b xs (whole_window b xs)
 HasWindow-whole b xs fits = record { fits = fits; within = record { start = omega arith; len = omega arith } }
 
 -- what the steps so far replied and left, where a step on a list of n bits is a row
 module _ {E C S : Type 0} (access : Access C E) (row_of : ℕ → S → CommandRow) where
+  -- The steps were made: their replies are `made`, and the window holds the list after the last.
   pub record Ran (b : ℕ) (at : ℕ → ℕ → ℕ) (list : List Bool) (steps : List S) (window : Window) (old new : C) (made : List Reply) : Type 0 where
     pub replies : made ≡ replies_of (row_reply row_of) (row_list row_of) list steps
     pub writes : Writes b at (access.numbers old) (access.numbers new) window (list_after (row_list row_of) list steps)
 
-  -- and one step more
+  -- Steps that were made, and one more that followed its row, were made together.
   pub Ran-next : (b : ℕ) (at : ℕ → ℕ → ℕ) (words : Bool) (list : List Bool) (steps : List S) (i : ℕ) (d : S) (window : Window) (old now new : C) (made : List Reply) (result : Reply) → HasWindow b (access.numbers old) window → i < length steps
       → Ran b at list (take i steps) window old now made
       → Follows access b at words (row_of window.len (slice_index_or steps i d)) window now new result
@@ -56,6 +58,7 @@ module _ {E C S : Type 0} (access : Access C E) (row_of : ℕ → S → CommandR
 
 -- the same with what it took of the two memories, after no step, one step more, and all of them
 module _ {E F C D S : Type 0} (access : Access C E) (beside : Access D F) (row_of : ℕ → S → CommandRow) where
+  -- A run before its first step has made no replies and changed nothing.
   pub RunsBy-start : (b : ℕ) (at : ℕ → ℕ → ℕ) (words : Bool) (window : Window) (steps : List S) (old : C) (right : D) (made : List Reply) → HasWindow b (access.numbers old) window → made ≡ []
       → RunsBy access beside row_of b at words window (take 0 steps) old old right right made
   RunsBy-start b at words window steps old right made has none = record {
@@ -65,6 +68,7 @@ module _ {E F C D S : Type 0} (access : Access C E) (beside : Access D F) (row_o
     right = record { numbers = refl; borrow = refl; loads = omega arith; stores = refl };
   }
 
+  -- A run and one step more that followed its row are a run of one step more.
   pub RunsBy-next : (b : ℕ) (at : ℕ → ℕ → ℕ) (words : Bool) (window : Window) (steps : List S) (i : ℕ) (d : S) (old now new : C) (right_old right_now right_new : D) (made : List Reply) (result : Reply)
       → HasWindow b (access.numbers old) window → i < length steps
       → RunsBy access beside row_of b at words window (take i steps) old now right_old right_now made
@@ -80,6 +84,7 @@ module _ {E F C D S : Type 0} (access : Access C E) (beside : Access D F) (row_o
         right = reads-next beside cost right_old right_now right_new steps i d below before.right did.right;
       }
 
+  -- A run of at least all steps is a run of all.
   pub RunsBy-all : (b : ℕ) (at : ℕ → ℕ → ℕ) (words : Bool) (window : Window) (steps : List S) (i : ℕ) (old new : C) (right_old right_new : D) (made : List Reply) → length steps ≤ i
       → RunsBy access beside row_of b at words window (take i steps) old new right_old right_new made → RunsBy access beside row_of b at words window steps old new right_old right_new made
   RunsBy-all b at words window steps i old new right_old right_new made over ran =

@@ -47,31 +47,35 @@ abbrev pub unless_refused : Option Refusal → CommandRow → CommandRow
 unless_refused None row = row
 unless_refused (Some refusal) row = refused refusal
 
+-- What comes of a row: what it says, or its refusal.
 abbrev pub outcome : CommandRow → CommandRow
 outcome row = unless_refused row.refusal row
 
 -- of steps each of which is a row, on a list of n bits
 module _ {S : Type 0} (row_of : ℕ → S → CommandRow) where
+  -- The reply of a step's row to a list.
   abbrev pub row_reply : List Bool → S → Reply
   row_reply list step = (row_of (length list) step).reply list
 
+  -- The list that a step's row leaves of a list.
   abbrev pub row_list : List Bool → S → List Bool
   row_list list step = (row_of (length list) step).list list
 
 -- ---- refusals
 
+-- The refusal where the test fails, and none where it passes.
 abbrev pub unless : Bool → Refusal → Option Refusal
 unless test refusal = if test then None else Some refusal
 
--- the first of two
+-- The first of two refusals that is given.
 abbrev pub or_else : Option Refusal → Option Refusal → Option Refusal
 or_else None second = second
 or_else (Some refusal) second = Some refusal
 
--- the values from..to of a list of n
+-- Whether the range from `from` up to `to` is in order and ends at most at `n`.
 abbrev pub range_lies : ℕ → ℕ → ℕ → Bool
 range_lies n from to = nat_le from to && nat_le to n
 
--- `IsWithin window n` as a test (`lies_in-within`)
+-- Whether the window lies within `n` places.
 abbrev pub lies_in : Window → ℕ → Bool
 lies_in window n = nat_le window.start n && nat_le window.len (n - window.start)

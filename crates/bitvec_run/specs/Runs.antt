@@ -40,8 +40,7 @@ run_cost row_of n place steps = cost_of (λ step. (row_of n step).cost place) st
 
 -- what a run of such steps through a window did: what it replied, what it left, and what it took at most of the memory and of the right one
 module _ {E F C D S : Type 0} (access : Access C E) (beside : Access D F) (row_of : ℕ → S → CommandRow) where
-  -- `RunsBy .. made` (`Runs`): the replies are those of the steps, the window holds the list after the last, and the accessors took at
-  -- most the sum of the costs.
+  -- The replies are those of the steps, the window holds the list after the last, and the costs add up to the bound at most.
   pub record RunsBy (b : ℕ) (at : ℕ → ℕ → ℕ) (words : Bool) (window : Window) (steps : List S) (old new : C) (right_old right_new : D) (made : List Reply) : Type 0 where
     pub replies : made ≡ replies_of (row_reply row_of) (row_list row_of) (list_in b at (access.numbers old) window) steps
     pub writes : Writes b at (access.numbers old) (access.numbers new) window (list_after (row_list row_of) (list_in b at (access.numbers old) window) steps)
@@ -68,11 +67,14 @@ pub record StepFits (n r : ℕ) (step : Step) : Type 0 where
   pub list : FitsList (step.to - step.from) step.op
   pub right : FitsRight r step.op
 
+-- What comes of a step: what its row says, unless it is refused.
 abbrev pub step_outcome : List Bool → ℕ → Step → CommandRow
 step_outcome right n step = outcome (step_row right n step)
 
+-- The reply of a step to a list.
 abbrev pub step_reply : List Bool → List Bool → Step → Reply
 step_reply right list step = (step_outcome right (length list) step).reply list
 
+-- The list that a step leaves of a list.
 abbrev pub step_list : List Bool → List Bool → Step → List Bool
 step_list right list step = (step_outcome right (length list) step).list list

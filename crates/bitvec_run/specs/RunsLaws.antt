@@ -12,14 +12,16 @@ use Rattle.bitvec_run.specs.CommandsLaws.{fits_list, fits_right}
 use Rattle.bitvec_run.specs.Rows.{CommandRow, on_range, outcome, range_lies, refused, unless_refused}
 use Rattle.bitvec_run.specs.Runs.{CanRun, ErrsExactly, FailsRun, StepFits, step_outcome, step_row}
 
--- what comes of a row, by its refusal
+-- What comes of a row is what its refusal, computed elsewhere, makes of it.
 pub outcome-is : (row : CommandRow) (refusal : Option Refusal) → row.refusal ≡ refusal → outcome row ≡ unless_refused refusal row
 outcome-is row refusal is = ap (λ (r : Option Refusal). unless_refused r row) is
 
+-- A step whose range lies in the list is its command on that range.
 pub step_row-inside : (right : List Bool) (n : ℕ) (step : Step) → range_lies n step.from step.to ≡ true → step_row right n step ≡ on_range step.from step.to (op_row right (step.to - step.from) step.op)
 unfolding step_row
 step_row-inside right n step inside = rw inside refl
 
+-- A step whose range doesn't lie in the list is refused.
 pub step_row-outside : (right : List Bool) (n : ℕ) (step : Step) → range_lies n step.from step.to ≡ false → step_row right n step ≡ refused Refusal.Range
 unfolding step_row
 step_row-outside right n step outside = rw outside refl
@@ -31,11 +33,11 @@ step-inside right n step none =
     (λ outside. let is = ap (λ (row : CommandRow). row.refusal) (step_row-outside right n step outside) in let no : Some Refusal.Range ≡ None = sym is ∙ none in cc)
     (cases_Bool (range_lies n step.from step.to))
 
--- a step that isn't refused does what its command does
+-- A step that isn't refused does what its command does on its range.
 pub step-does : (right : List Bool) (n : ℕ) (step : Step) → (step_row right n step).refusal ≡ None → step_outcome right n step ≡ on_range step.from step.to (op_row right (step.to - step.from) step.op)
 step-does right n step none = outcome-is (step_row right n step) None none ∙ step_row-inside right n step (step-inside right n step none)
 
--- and fits, where the refusal is what was computed
+-- A step whose computed refusal is none names only what its range and the right list have.
 pub refusal-fits : (right : List Bool) (n : ℕ) (step : Step) (refusal : Option Refusal) → step.from ≤ step.to → step.to ≤ n → refusal ≡ op_refusal right (step.to - step.from) step.op → IfNone refusal (StepFits n (length right) step)
 refusal-fits right n step None order bound is = record {
   order = order;
@@ -47,6 +49,7 @@ refusal-fits right n step (Some refusal) order bound is = tt
 
 -- where a run is made only if it can be, and else says why it isn't, each error comes exactly where it should
 module _ {A : Type 0} (b : ℕ) (xs : List ℕ) (window : Window) (ys : List ℕ) (n : ℕ) where
+  -- A run that fails only as it should, and succeeds only where it can be made, gives its errors exactly where they should come.
   pub errs-exactly : (result : Result A RunError) → OnOk result (CanRun b xs window ys) → IfErr result (FailsRun b xs window ys n) → ErrsExactly b xs window ys n result
   errs-exactly (Ok value) made fails = record {
     window_error = (λ is. cc, λ none. absurd (none made.has_window));

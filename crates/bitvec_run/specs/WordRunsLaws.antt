@@ -71,36 +71,36 @@ module _ {E F C D : Type 0} (access : Access C E) (beside : Access D F) (right :
       let within = one-within right window.len (place_of b true window) (record { from = from; to = to; op = op }) in
       record { numbers = ran.right.numbers; borrow = ran.right.borrow; loads = omega (arith, ran.right.loads, within.right_loads); stores = ran.right.stores }
 
-  -- `CopyFrom` of `n` bits takes at most `ceil(n / 64)` word steps of either memory.
+  -- `CopyFrom` of `n` bits writes the left memory in at most `n / 64` word steps, rounded up.
   pub copy-steps : (source : Window) → IsWidth b → RunsOne (CopyFrom source) → WritesInSteps access old new b (div_ceil (to - from) 64)
   copy-steps source width ran = writes-words access old new b (to - from) width (costs-row (CopyFrom source) ran)
 
-  -- `CopyFrom` of `n` bits takes at most `ceil(n / 64)` word steps of either memory.
+  -- `CopyFrom` of `n` bits reads the right memory in at most `n / 64` word steps, rounded up.
   pub copy-right_steps : (source : Window) → IsWidth b → RunsOne (CopyFrom source) → ReadsInSteps beside right_old right_new b (div_ceil (to - from) 64)
   copy-right_steps source width ran = reads-words beside right_old right_new b (to - from) width (reads-row (CopyFrom source) ran)
 
-  -- So does `CopyWithin`.
+  -- `CopyWithin` of `n` bits edits the memory in at most `n / 64` word steps, rounded up.
   pub move-steps : (start end dest : ℕ) → IsWidth b → RunsOne (CopyWithin start end dest) → EditsInSteps access old new b (div_ceil (end - start) 64)
   move-steps start end dest width ran = edits-words access old new b (end - start) width (costs-row (CopyWithin start end dest) ran)
 
-  -- So do `And`, `Or` and `Xor`.
+  -- `And`, `Or` and `Xor` of `n` bits edit the left memory in at most `n / 64` word steps, rounded up.
   pub operator-steps : (op : Op) → IsOperator op → IsWidth b → RunsOne op → EditsInSteps access old new b (div_ceil (to - from) 64)
   operator-steps (And source) is width ran = edits-words access old new b (to - from) width (costs-row (And source) ran)
   operator-steps (Or source) is width ran = edits-words access old new b (to - from) width (costs-row (Or source) ran)
   operator-steps (Xor source) is width ran = edits-words access old new b (to - from) width (costs-row (Xor source) ran)
   operator-steps _ is width ran = absurd is
 
-  -- So do `And`, `Or` and `Xor`.
+  -- `And`, `Or` and `Xor` of `n` bits read the right memory in at most `n / 64` word steps, rounded up.
   pub operator-right_steps : (op : Op) → IsOperator op → IsWidth b → RunsOne op → ReadsInSteps beside right_old right_new b (div_ceil (to - from) 64)
   operator-right_steps (And source) is width ran = reads-words beside right_old right_new b (to - from) width (reads-row (And source) ran)
   operator-right_steps (Or source) is width ran = reads-words beside right_old right_new b (to - from) width (reads-row (Or source) ran)
   operator-right_steps (Xor source) is width ran = reads-words beside right_old right_new b (to - from) width (reads-row (Xor source) ran)
   operator-right_steps _ is width ran = absurd is
 
-  -- a comparison, which loads nothing where the lengths differ
+  -- `Eq` of `n` bits reads the left memory in at most `n / 64` word steps, rounded up, and not at all where the lengths differ.
   pub equal-steps : (source : Window) → IsWidth b → RunsOne (Eq source) → CostsAtMost access old new ((if to - from == source.len then div_ceil (to - from) 64 else 0) * word_span b) 0
   equal-steps source width ran = rw (equal_loads-words b (to - from) source.len width) at (costs-row (Eq source) ran)
 
-  -- So does `Eq`, and of other lengths it loads nothing.
+  -- `Eq` of `n` bits reads the right memory in at most `n / 64` word steps, rounded up, and not at all where the lengths differ.
   pub equal-right_steps : (source : Window) → IsWidth b → RunsOne (Eq source) → ReadsInSteps beside right_old right_new b (if to - from == source.len then div_ceil (to - from) 64 else 0)
   equal-right_steps source width ran = equals-words beside right_old right_new b (to - from) source.len width (reads-row (Eq source) ran)

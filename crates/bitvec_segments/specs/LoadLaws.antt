@@ -20,7 +20,7 @@ in_first-total bit (segment ∷ rest) =
     let before = sum_by-cons length segment rest in
     omega arith
 
--- Lengths and bounds that these stand on.
+-- The segments of a list have as many bits together as the list.
 pub segments-total : (b s : ℕ) (list : List Bool) → sum_by length (segments b s list) ≡ length list
 unfolding segments
 segments-total b s [] = refl
@@ -33,7 +33,7 @@ segments-total b s (bit ∷ list) =
 
 -- ---- a number has as many bits as its list
 
--- Lengths and bounds that these stand on.
+-- A number below `2^j` above `k` lower bits of another number makes a number below `2^(k + j)`.
 pub joined_below : (v w j k : ℕ) → v < 2 ^ j → w < 2 ^ k → v * 2 ^ k + w < 2 ^ (k + j)
 joined_below v w j k high low =
     let order = mul-le-mul_left (2 ^ k) high in
@@ -50,30 +50,30 @@ end_number-below true high (segment ∷ rest) =
     let total : sum_by length (segment ∷ rest) ≡ sum_by length rest + length segment = sum_by-cons length segment rest ∙ omega arith in
     rw total (joined_below _ _ (length segment) (sum_by length rest) (segment_number-below high segment) (end_number-below true high rest))
 
--- A loaded number is below `2^len`.
+-- The number loaded from a list of `n` bits is below `2^n`.
 pub loaded-below : (big high : Bool) (b s : ℕ) (list : List Bool) → loaded big high b s list < 2 ^ length list
 unfolding loaded
 loaded-below big high b s list = let total = segments-total b s list in rw (← total) (end_number-below big high (segments b s list))
 
 -- ---- the first segment and the rest
 
--- No bits have the number 0, and a store in none leaves none.
+-- The number loaded from no bits is 0.
 pub loaded-none : (big high : Bool) (b s : ℕ) → loaded big high b s [] ≡ 0
 unfolding loaded end_number segments
 loaded-none big high b s = refl
 
--- how many bits of a number are lower than those of a part of it: those behind the part, or those before it
+-- How many bits of a number are lower than those of a part: those behind the part where `big` holds, else those before it.
 abbrev pub lower_bits : Bool → ℕ → ℕ → ℕ
 lower_bits big before behind = if big then behind else before
 
--- A number by its bits in the first element and those behind.
+-- The number of a list of segments is its first segment's number and the rest's, each shifted by the bits lower than it.
 pub end_number-first : (big high : Bool) (segment : List Bool) (rest : List (List Bool))
     → end_number big high (segment ∷ rest) ≡ segment_number high segment * 2 ^ lower_bits big 0 (sum_by length rest) + end_number big high rest * 2 ^ lower_bits big (length segment) 0
 unfolding end_number
 end_number-first true high segment rest = omega arith
 end_number-first false high segment rest = omega arith
 
--- A number by its bits in the first element and those behind.
+-- A loaded number is made of the number of the `k` bits in the first element and that of the bits behind them.
 pub loaded-first : (big high : Bool) (b s : ℕ) (list : List Bool) (k : ℕ) → 0 < b → 0 < length list → k ≡ first_len b s (length list)
     → loaded big high b s list ≡ segment_number high (take k list) * 2 ^ lower_bits big 0 (length list - k) + loaded big high b (s + k) (drop k list) * 2 ^ lower_bits big k 0
 unfolding loaded
@@ -107,35 +107,35 @@ loaded-some big high b s list some more inside =
     loaded-first big high b s list n some more (one_len b s n inside)
     ∙ rw (all, none, zero_left, left) (alone big (segment_number high list) n)
 
--- its number is the segment's
+-- The number loaded from bits that lie in one element is their segment's number.
 pub loaded-segment : (big high : Bool) (b s : ℕ) (list : List Bool) → 0 < b → s % b + length list ≤ b → loaded big high b s list ≡ segment_number high list
 unfolding segment_number
 loaded-segment big high b s [] some inside = loaded-none big high b s
 loaded-segment big high b s (bit ∷ list) some inside = loaded-some big high b s (bit ∷ list) some (omega arith) inside
 
--- so it is one from both ends
+-- For bits that lie in one element the little-endian and the big-endian load give the same number.
 pub loaded-one : (high : Bool) (b s : ℕ) (list : List Bool) → 0 < b → s % b + length list ≤ b → loaded_le high b s list ≡ loaded_be high b s list
 loaded-one high b s list some inside = loaded-segment false high b s list some inside ∙ sym (loaded-segment true high b s list some inside)
 
--- the place of the first bit counts as far as its index in its element does
+-- A loaded number depends on the list's place only by the index of its first bit in an element.
 pub loaded-phase : (big high : Bool) (b s t : ℕ) (list : List Bool) → s % b ≡ t % b → loaded big high b s list ≡ loaded big high b t list
 unfolding loaded
 loaded-phase big high b s t list same = ap (end_number big high) (segments-phase b s t list same)
 
 -- ---- from either end
 
--- A loaded number is below `2^len`.
+-- The number that a little-endian load of `n` bits gives is below `2^n`.
 pub loaded_le-below : (high : Bool) (b s : ℕ) (list : List Bool) → loaded_le high b s list < 2 ^ length list
 loaded_le-below = loaded-below false
 
--- A loaded number is below `2^len`.
+-- The number that a big-endian load of `n` bits gives is below `2^n`.
 pub loaded_be-below : (high : Bool) (b s : ℕ) (list : List Bool) → loaded_be high b s list < 2 ^ length list
 loaded_be-below = loaded-below true
 
--- Of the start only its index in its element counts.
+-- A little-endian load depends on the list's place only by the index of its first bit in an element.
 pub loaded_le-phase : (high : Bool) (b s t : ℕ) (list : List Bool) → s % b ≡ t % b → loaded_le high b s list ≡ loaded_le high b t list
 loaded_le-phase = loaded-phase false
 
--- Of the start only its index in its element counts.
+-- A big-endian load depends on the list's place only by the index of its first bit in an element.
 pub loaded_be-phase : (high : Bool) (b s t : ℕ) (list : List Bool) → s % b ≡ t % b → loaded_be high b s list ≡ loaded_be high b t list
 loaded_be-phase = loaded-phase true

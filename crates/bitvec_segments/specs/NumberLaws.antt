@@ -1,4 +1,4 @@
--- Numbers of segments.
+-- Numbers of segments: how great they are, and how they and their bits tell each other.
 use Rattle.std.specs.Prelude.{◌≡◌, ℕ, ◌+◌, ◌-◌, ◌*◌, ◌/◌, ◌%◌, ◌^◌, ◌<◌, ◌==◌, if◌then◌else◌, Bool, true, false, List, [], ◌∷◌, length, slice_index_or, refl, zero, suc}
 use Rattle.std.specs.Int.{bit_at}
 use Rattle.std.proofs.Common.{arith, sym, ◌∙◌, ap}
@@ -24,7 +24,7 @@ highest_below false n v below = let twice = pow-add 2 n 1 in omega arith
 below_twice : (n v c : ℕ) → v < 2 ^ n → c < 2 ^ 1 → v * 2 + c < 2 ^ suc n
 below_twice n v c below one = let twice = pow-add 2 n 1 in omega arith
 
--- it has as many bits as the segment
+-- The number of a segment of `n` bits is below `2^n`.
 pub segment_number-below : (high : Bool) (list : List Bool) → segment_number high list < 2 ^ length list
 unfolding segment_number
 segment_number-below false [] = omega arith
@@ -66,7 +66,7 @@ bit_told : (bit : Bool) → ((if bit then 1 else 0) == 1) ≡ bit
 bit_told true = refl
 bit_told false = refl
 
--- the bits of its number are the segment
+-- The bits of a segment's number are the segment.
 pub segment-told : (high : Bool) (list : List Bool) → segment_bits high (length list) (segment_number high list) ≡ list
 segment-told high list =
     let long = length-element_bits (length list) (bit_number high) (segment_number high list) in
@@ -79,11 +79,11 @@ bit_numbers-permute : (high : Bool) (k : ℕ) → Permutes k (bit_number high k)
 bit_numbers-permute true k = record { below = λ i below. omega arith; apart = λ i j first second same. omega arith }
 bit_numbers-permute false k = record { below = λ i below. below; apart = λ i j first second same. same }
 
--- The place of a bit in a number of n bits is below n.
+-- The place of a bit in a number of `k` bits is below `k`.
 pub bit_number-below : (high : Bool) (k i : ℕ) → i < k → bit_number high k i < k
 bit_number-below high k i below = (bit_numbers-permute high k).below i below
 
--- the bits of a segment are those of the number's remainder alone
+-- The `k` bits of a number are those of its remainder by `2^k`.
 pub segment_bits-mod : (high : Bool) (k v : ℕ) → segment_bits high k (v % 2 ^ k) ≡ segment_bits high k v
 segment_bits-mod high k v =
     let long = length-element_bits k (bit_number high) v in
@@ -96,7 +96,7 @@ segment_bits-mod high k v =
     ∙ ap (λ (n : ℕ). bit_at n p) (div-add-mod' v (2 ^ k)))
     ∙ sym (get-element_bits k (bit_number high) v i d (omega arith)))
 
--- and its number is that remainder
+-- The number of the segment that a number's `k` bits make is the number's remainder by `2^k`.
 pub segment-number : (high : Bool) (k v : ℕ) → segment_number high (segment_bits high k v) ≡ v % 2 ^ k
 segment-number high k v =
     let long = length-element_bits k (bit_number high) v in
@@ -105,6 +105,6 @@ segment-number high k v =
     element_bits-fix k (bit_number high) (bit_numbers-permute high k) _ _ below (mod_below v (2 ^ k) (pow_pos k))
     (told ∙ sym (segment_bits-mod high k v))
 
--- a number of k bits with these bits is theirs
+-- A number below `2^k` is the number of the segment that its `k` bits make.
 pub segment-number-is : (high : Bool) (k v : ℕ) (list : List Bool) → v < 2 ^ k → segment_bits high k v ≡ list → v ≡ segment_number high list
 segment-number-is high k v list below is = sym (mod-eq_of_lt below) ∙ sym (segment-number high k v) ∙ ap (segment_number high) is

@@ -48,13 +48,13 @@ joined high b s (bit ∷ list) =
     ∙ ap (λ (n : ℕ). segment_number high (bit ∷ []) * 2 ^ lower_bits high 0 (length list) + n * 2 ^ lower_bits high 1 0) (joined high b (s + 1) list)
     ∙ bit_alone high bit list
 
--- From the end that is the order's own the number is that of the bits, across elements too.
+-- Where the first segment and a segment's first bit are both highest or both lowest, a load gives the number of one segment.
 pub loaded-plain : (big high : Bool) (b s : ℕ) (list : List Bool) → big ≡ high → loaded big high b s list ≡ segment_number high list
 unfolding loaded
 loaded-plain big high b s list is = rw is (joined high b s list)
 
 -- ---- the number of two lists side by side
--- The number of two lists joined, by those of each.
+-- Where the first bit is the lowest, the second of two joined lists counts `2^(length first)` times its number.
 pub append-lowest : (first second : List Bool) → segment_number false (first ++ second) ≡ segment_number false second * 2 ^ length first + segment_number false first
 unfolding segment_number
 append-lowest [] second = omega arith
@@ -63,7 +63,7 @@ append-lowest (bit ∷ first) second =
     ap (λ (n : ℕ). n * 2 + (if bit then 1 else 0)) (append-lowest first second)
     ∙ sym (lower_bit (segment_number false second) (segment_number false first) (if bit then 1 else 0) (2 ^ length first) (2 ^ suc (length first)) (omega arith))
 
--- The number of two lists joined, by those of each.
+-- Where the first bit is the highest, the first of two joined lists counts `2^(length second)` times its number.
 pub append-highest : (first second : List Bool) → segment_number true (first ++ second) ≡ segment_number true first * 2 ^ length second + segment_number true second
 unfolding segment_number
 append-highest [] second = omega arith
@@ -76,10 +76,10 @@ append-highest (bit ∷ first) second =
 
 -- ---- from either end
 
--- From the end that is the order's own the number is that of the bits, across elements too.
+-- Under an order whose first bit is the lowest, a little-endian load gives the number of one segment, across elements too.
 pub loaded_le-plain : (high : Bool) (b s : ℕ) (list : List Bool) → high ≡ false → loaded_le high b s list ≡ segment_number high list
 loaded_le-plain high b s list is = loaded-plain false high b s list (sym is)
 
--- From the end that is the order's own the number is that of the bits, across elements too.
+-- Under an order whose first bit is the highest, a big-endian load gives the number of one segment, across elements too.
 pub loaded_be-plain : (high : Bool) (b s : ℕ) (list : List Bool) → high ≡ true → loaded_be high b s list ≡ segment_number high list
 loaded_be-plain high b s list is = loaded-plain true high b s list (sym is)

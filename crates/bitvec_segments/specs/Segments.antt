@@ -6,7 +6,7 @@ use Rattle.std.specs.Prelude.{ℕ, ◌+◌, ◌-◌, ◌*◌, ◌/◌, ◌%◌, 
 use Rattle.std.specs.List.{sum_by}
 use Rattle.bitvec_base.specs.Memory.{element_bits}
 
--- a bit before the bits of the first segment; alone, where there is none
+-- The segments with one bit more at the front of the first one; the bit is the only segment where there is none.
 abbrev pub in_first : Bool → List (List Bool) → List (List Bool)
 in_first bit [] = (bit ∷ []) ∷ []
 in_first bit (segment ∷ rest) = (bit ∷ segment) ∷ rest
@@ -22,7 +22,7 @@ segments b s (bit ∷ list) = if (s + 1) % b == 0 then (bit ∷ []) ∷ segments
 abbrev pub bit_number : Bool → ℕ → ℕ → ℕ
 bit_number high k i = if high then k - 1 - i else i
 
--- the number of a segment: its first bit counts 1 and each other twice the one before it, or the last 1 and each twice the one behind it
+-- The number of a segment of bits: its first bit is the highest where `high` holds, and else the lowest.
 unfoldable pub segment_number : Bool → List Bool → ℕ
 segment_number high [] = 0
 segment_number false (bit ∷ rest) = segment_number false rest * 2 + (if bit then 1 else 0)
@@ -34,7 +34,7 @@ segment_bits high k v = element_bits k (bit_number high) v
 
 -- ---- the number of many: from the big end the first one is the highest, from the little end the lowest
 
--- `end_number big high segments`: the first segment is highest where `big` holds, and else lowest.
+-- The number of a list of segments: the first segment is highest where `big` holds, and else lowest.
 unfoldable pub end_number : Bool → Bool → List (List Bool) → ℕ
 end_number big high [] = 0
 end_number false high (segment ∷ rest) = end_number false high rest * 2 ^ length segment + segment_number high segment
@@ -48,26 +48,26 @@ end_bits true high v (segment ∷ rest) = segment_bits high (length segment) (v 
 
 -- ---- lists at a place
 
--- the number that a load gives
+-- The number that a load of a list of bits gives, from the place `s` on; it is big-endian where `big` holds.
 unfoldable pub loaded : Bool → Bool → ℕ → ℕ → List Bool → ℕ
 loaded big high b s list = end_number big high (segments b s list)
 
--- `loaded_le high b s list`, `loaded_be high b s list`: that of a list at a place.
+-- The number that `load_le` of `bitvec`'s `BitField` gives for a list of bits whose first one stands at the place `s`.
 abbrev pub loaded_le : Bool → ℕ → ℕ → List Bool → ℕ
 loaded_le high b s list = loaded false high b s list
 
--- `loaded_le high b s list`, `loaded_be high b s list`: that of a list at a place.
+-- The number that `load_be` of `bitvec`'s `BitField` gives for a list of bits whose first one stands at the place `s`.
 abbrev pub loaded_be : Bool → ℕ → ℕ → List Bool → ℕ
 loaded_be high b s list = loaded true high b s list
 
--- the list that a store of v leaves
+-- The bits that a store of the number `v` leaves in a list's place, from the place `s` on; it is big-endian where `big` holds.
 unfoldable pub stored : Bool → Bool → ℕ → ℕ → ℕ → List Bool → List Bool
 stored big high b s v list = end_bits big high v (segments b s list)
 
--- `stored_le high b s v list`, `stored_be high b s v list`: the list that a store of `v` leaves.
+-- The bits that `store_le` of `bitvec`'s `BitField` leaves of a list whose first one stands at the place `s`.
 abbrev pub stored_le : Bool → ℕ → ℕ → ℕ → List Bool → List Bool
 stored_le high b s v list = stored false high b s v list
 
--- `stored_le high b s v list`, `stored_be high b s v list`: the list that a store of `v` leaves.
+-- The bits that `store_be` of `bitvec`'s `BitField` leaves of a list whose first one stands at the place `s`.
 abbrev pub stored_be : Bool → ℕ → ℕ → ℕ → List Bool → List Bool
 stored_be high b s v list = stored true high b s v list

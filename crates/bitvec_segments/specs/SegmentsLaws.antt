@@ -6,11 +6,11 @@ use Rattle.std.proofs.lemmas.Nat.{div-add-mod', mod_below, mod-mul-add}
 use Rattle.std.proofs.Math.Nat.{mod-add-mod}
 use Rattle.bitvec_segments.specs.Segments.{in_first, segments}
 
--- the bits of a list that stand in the element in which it begins
+-- How many of the first `n` bits from the place `s` on stand in the element in which they begin.
 abbrev pub first_len : ℕ → ℕ → ℕ → ℕ
 first_len b s n = min n (b - s % b)
 
--- there is one, where the list has any
+-- A list that isn't empty has at least one bit in its first element.
 pub first-some : (b s n : ℕ) → 0 < b → 0 < n → 0 < first_len b s n
 first-some b s n some more = let below = mod_below s b some in omega arith
 
@@ -42,7 +42,7 @@ segments-inside : (b s r : ℕ) (bit : Bool) (list : List Bool) → (s + 1) % b 
 unfolding segments
 segments-inside b s r bit list inside = cond-false _ _ _ (ne_eqb ((s + 1) % b) 0 (λ e. let no : r + 1 ≡ 0 = sym inside ∙ e in omega arith))
 
--- the first segment, and the rest
+-- The segments of a list are its bits in the first element and the segments of the rest.
 pub segments-first : (b s : ℕ) (list : List Bool) (k : ℕ) → 0 < b → 0 < length list → k ≡ first_len b s (length list) → segments b s list ≡ take k list ∷ segments b (s + k) (drop k list)
 unfolding segments
 segments-first b s [] k some more is = absurd (omega arith)
@@ -72,6 +72,7 @@ segments-first b s (bit ∷ (second ∷ list)) k some more is =
 next-phase : (b s t : ℕ) → s % b ≡ t % b → (s + 1) % b ≡ (t + 1) % b
 next-phase b s t same = sym (mod-add-mod s b 1) ∙ ap (λ (n : ℕ). (n + 1) % b) same ∙ mod-add-mod t b 1
 
+-- A list's segments depend on its place only by the index of its first bit in an element.
 pub segments-phase : (b s t : ℕ) (list : List Bool) → s % b ≡ t % b → segments b s list ≡ segments b t list
 unfolding segments
 segments-phase b s t [] same = refl

@@ -18,7 +18,7 @@ unmoved v = omega arith
 
 -- ---- a store's list is as long as the one before
 
--- Lengths and bounds that these stand on.
+-- The segment of `k` bits of a number has `k` bits.
 pub length-segment_bits : (high : Bool) (k v : ℕ) → length (segment_bits high k v) ≡ k
 length-segment_bits high k v = length-element_bits k (bit_number high) v
 
@@ -40,19 +40,19 @@ length-end_bits big high v (segment ∷ rest) =
     let total = sum_by-cons length segment rest in
     ap (λ (l : List Bool). length l) (end_bits-first big high v segment rest) ∙ omega arith
 
--- A store leaves the length.
+-- A store leaves as many bits as before.
 pub length-stored : (big high : Bool) (b s v : ℕ) (list : List Bool) → length (stored big high b s v list) ≡ length list
 unfolding stored
 length-stored big high b s v list = length-end_bits big high v (segments b s list) ∙ segments-total b s list
 
 -- ---- the first segment and the rest
 
--- No bits have the number 0, and a store in none leaves none.
+-- A store in no bits leaves no bits.
 pub stored-none : (big high : Bool) (b s v : ℕ) → stored big high b s v [] ≡ []
 unfolding stored end_bits segments
 stored-none big high b s v = refl
 
--- A number by its bits in the first element and those behind.
+-- A store leaves in the first element the number's bits for it, and behind them what a store of the rest leaves.
 pub stored-first : (big high : Bool) (b s v : ℕ) (list : List Bool) (k : ℕ) → 0 < b → 0 < length list → k ≡ first_len b s (length list)
     → stored big high b s v list ≡ segment_bits high k (v / 2 ^ lower_bits big 0 (length list - k)) ++ stored big high b (s + k) (v / 2 ^ lower_bits big k 0) (drop k list)
 unfolding stored
@@ -116,11 +116,11 @@ rest_stored false high b s n r k m list below long =
 
 -- ---- what a store leaves is the number, as far as it fits
 
--- the parts of a list that begins with k bits
+-- The first `k` bits of two joined lists, where the first list has `k` bits, are the first list.
 pub front-taken : (first rest : List Bool) (k : ℕ) → length first ≡ k → take k (first ++ rest) ≡ first
 front-taken first rest k long = rw (← long) (take-append_seam first rest)
 
--- Lengths and bounds that these stand on.
+-- Two joined lists without their first `k` bits, where the first list has `k` bits, are the second list.
 pub front-dropped : (first rest : List Bool) (k : ℕ) → length first ≡ k → drop k (first ++ rest) ≡ rest
 front-dropped first rest k long = rw (← long) (drop-append_seam first rest)
 
@@ -179,11 +179,11 @@ stores-most (suc n) big high b s (bit ∷ list) some most =
 
 -- ---- so a number below 2 ^ n is that of exactly one list of n bits
 
--- A number stored is loaded modulo `2^len`.
+-- A load of what a store of `v` left gives `v` modulo `2^n`, where `n` is the number of bits.
 pub stored-loads : (big high : Bool) (b s v : ℕ) (list : List Bool) → 0 < b → loaded big high b s (stored big high b s v list) ≡ v % 2 ^ length list
 stored-loads big high b s v list some = loads-most (length list) big high b s v list some (omega arith)
 
--- The loaded number stored leaves the bits.
+-- A store of the number that a load of a list gives leaves the list.
 pub loaded-stores : (big high : Bool) (b s : ℕ) (list : List Bool) → 0 < b → stored big high b s (loaded big high b s list) list ≡ list
 loaded-stores big high b s list some = stores-most (length list) big high b s list some (omega arith)
 
@@ -205,7 +205,7 @@ same-most (suc n) big high b s v (bit ∷ x) (other ∷ y) some long most =
     ∙ ap (λ (l : List Bool). segment_bits high k (v / 2 ^ lower_bits big 0 (length (other ∷ y) - k)) ++ l) (same-most n big high b (s + k) w (drop k (bit ∷ x)) (drop k (other ∷ y)) some (omega arith) (omega arith))
     ∙ sym (stored-first big high b s v (other ∷ y) k some (omega arith) (ap (first_len b s) long))
 
--- so lists of one length with one number are one list
+-- Lists of one length from which the same number is loaded are equal.
 pub loaded-determines : (big high : Bool) (b s : ℕ) (x y : List Bool) → 0 < b → length x ≡ length y → loaded big high b s x ≡ loaded big high b s y → x ≡ y
 loaded-determines big high b s x y some long same =
     sym (loaded-stores big high b s x some)
@@ -215,34 +215,34 @@ loaded-determines big high b s x y some long same =
 
 -- ---- from either end
 
--- A store leaves the length.
+-- A little-endian store leaves as many bits as before.
 pub length-stored_le : (high : Bool) (b s v : ℕ) (list : List Bool) → length (stored_le high b s v list) ≡ length list
 length-stored_le = length-stored false
 
--- A store leaves the length.
+-- A big-endian store leaves as many bits as before.
 pub length-stored_be : (high : Bool) (b s v : ℕ) (list : List Bool) → length (stored_be high b s v list) ≡ length list
 length-stored_be = length-stored true
 
--- A number stored is loaded modulo `2^len`.
+-- A little-endian load of what such a store of `v` left gives `v` modulo `2^n`, where `n` is the number of bits.
 pub stored_le-loads : (high : Bool) (b s v : ℕ) (list : List Bool) → 0 < b → loaded_le high b s (stored_le high b s v list) ≡ v % 2 ^ length list
 stored_le-loads = stored-loads false
 
--- A number stored is loaded modulo `2^len`.
+-- A big-endian load of what such a store of `v` left gives `v` modulo `2^n`, where `n` is the number of bits.
 pub stored_be-loads : (high : Bool) (b s v : ℕ) (list : List Bool) → 0 < b → loaded_be high b s (stored_be high b s v list) ≡ v % 2 ^ length list
 stored_be-loads = stored-loads true
 
--- The loaded number stored leaves the bits.
+-- A little-endian store of the number that such a load of a list gives leaves the list.
 pub loaded_le-stores : (high : Bool) (b s : ℕ) (list : List Bool) → 0 < b → stored_le high b s (loaded_le high b s list) list ≡ list
 loaded_le-stores = loaded-stores false
 
--- The loaded number stored leaves the bits.
+-- A big-endian store of the number that such a load of a list gives leaves the list.
 pub loaded_be-stores : (high : Bool) (b s : ℕ) (list : List Bool) → 0 < b → stored_be high b s (loaded_be high b s list) list ≡ list
 loaded_be-stores = loaded-stores true
 
--- Lists of one length with one number are one list.
+-- Lists of one length from which a little-endian load gives the same number are equal.
 pub loaded_le-determines : (high : Bool) (b s : ℕ) (x y : List Bool) → 0 < b → length x ≡ length y → loaded_le high b s x ≡ loaded_le high b s y → x ≡ y
 loaded_le-determines = loaded-determines false
 
--- Lists of one length with one number are one list.
+-- Lists of one length from which a big-endian load gives the same number are equal.
 pub loaded_be-determines : (high : Bool) (b s : ℕ) (x y : List Bool) → 0 < b → length x ≡ length y → loaded_be high b s x ≡ loaded_be high b s y → x ≡ y
 loaded_be-determines = loaded-determines true

@@ -5,12 +5,12 @@ use Rattle.std.specs.Iterator.Runs.{EveryRun, ItemsAre, ItemsAreReversed}
 use Rattle.bitvec_slice.specs.declared.bit_parts.BitDomainParts.{BitDomainParts}
 
 module _ {V : Type 0} where
-  -- the one part, if it is there
+  -- The part as a list of one, and no part where there is none.
   abbrev pub part_if : Option V → List V
   part_if None = []
   part_if (Some part) = part ∷ []
 
-  -- those that are still to come
+  -- The parts of a bit domain that a walk has still to give.
   abbrev pub parts_left : BitDomainParts V → List V
   parts_left it = part_if it.head ++ (part_if it.body ++ part_if it.tail)
 

@@ -11,20 +11,20 @@ use Rattle.bitvec_domain.specs.References.{bit_of_ref, bit_of_ref_mut, elements_
 use Rattle.bitvec_domain.specs.declared.reference.BitRef.{BitRef}
 use Rattle.bitvec_domain.specs.declared.reference_mut.BitRefMut.{BitRefMut}
 
--- a view of so many bits has the range
+-- The range is in order and ends at most at `len`, the number of a view's bits.
 abbrev pub HasRange : Range ℕ → ℕ → Type 0
 HasRange range len = (range.start ≤ range.end) × (range.end ≤ len)
 
--- the same of a range with its end
+-- Both ends of the inclusive range are indices below `len`, the number of a view's bits, and in order.
 abbrev pub HasInclusive : RangeInclusive ℕ → ℕ → Type 0
 HasInclusive range len =
     (range_inclusive_start range < len) × (range_inclusive_end range < len) × (range_inclusive_start range ≤ range_inclusive_end range)
 
--- the reference reads the bit at an index of the view
+-- The reference reads the bit at an index of the view.
 abbrev pub IsBitOf : {T O : Type 0} → Seen T → ℕ → BitRef T O → Type 0
 IsBitOf view index r = bit_of_ref r ≡ slice_index_or view.bits index false
 
--- the reference writes that bit, in the element that has it
+-- The reference writes the bit at an index of the view, in the element that has it.
 pub record WritesBitOf {T O : Type 0} {t : Store T} {o : Order O} (view : Seen T) (index : ℕ) (r : BitRefMut T O t o) : Type 0 where
   pub bit : bit_of_ref_mut r ≡ slice_index_or view.bits index false
   pub place : place_of_ref_mut r ≡ (view.window.start + index) % t.BITS

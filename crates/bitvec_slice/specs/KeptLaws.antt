@@ -1,4 +1,4 @@
--- A view of which a range of elements was lent keeps the others.
+-- A view that lent a range of its elements keeps the others.
 use Rattle.std.specs.Prelude.{◌≡◌, ℕ, ◌+◌, ◌<◌, ◌≤◌, List, length}
 use Rattle.std.proofs.Common.{arith, sym}
 use Rattle.bitvec_store.specs.declared.store.BitStore.{Ghosts as Store}
@@ -13,7 +13,7 @@ use Rattle.bitvec_slice.specs.Views.{seen_mut}
 use Rattle.bitvec_slice.specs.declared.view_mut.BitSliceMut.{BitSliceMut}
 
 module _ {T O : Type 0} {t : Store T} {o : Order O} (v : BitSliceMut T O t o) where
-  -- what a view ends as after a lend of its bits from `from` up to `to`, which stand at the places from `start` up to `end`, whatever was left in the elements that these touch
+  -- A view that lent its bits from `from` up to `to` keeps each element that they don't touch.
   pub lent_bits-keep : (from to start end : ℕ) (ws : List T) → 0 < t.BITS → from ≤ to → to ≤ (seen_mut v).window.len → (seen_mut v).window.start + from ≡ start → (seen_mut v).window.start + to ≡ end
       → KeepsOutside (first_touched t.BITS start) (end_touched t.BITS end) (seen_mut v).elements
       (seen_mut (with_elements v (with_range (seen_mut v).elements (first_touched t.BITS ((seen_mut v).window.start + from)) (end_touched t.BITS ((seen_mut v).window.start + to)) ws))).elements

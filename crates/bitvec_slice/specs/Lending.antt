@@ -20,18 +20,19 @@ module _ {T O : Type 0} {t : Store T} {o : Order O} where
         bounded = subst (λ (n : ℕ). t.BITS * n ≤ max_bits) (length_refilled v.elements xs) v.bounded;
       }
 
+-- The type of a writable view, at a lender's lifetime.
 abbrev pub view_row : (T O : RattleType) → Store T.Denot → Order O.Denot → RattleType
 view_row T O t o = the_row of_lender T O t o
 
--- v's elements were lent under this name among borrows, and v ends with what is left there
+-- The elements of the view `v` were lent under this name among borrows, and `v` ends with what is left there.
 abbrev pub lends : (T O : RattleType) {t : Store T.Denot} {o : Order O.Denot} → MutBor (BitSliceMut T.Denot O.Denot t o) → GName → Fml
 lends T O {t} {o} v name = follows (view_row T O t o) (Array T 0) v.ghost_name name (with_elements v.now)
 
--- v's elements from `start` up to `end` were lent so, and v ends with what is left there and its other elements
+-- The elements of `v` from `start` up to `end` were lent under this name, and `v` ends with what is left there and the others.
 abbrev pub lends_part : (T O : RattleType) {t : Store T.Denot} {o : Order O.Denot} → MutBor (BitSliceMut T.Denot O.Denot t o) → ℕ → ℕ → GName → Fml
 lends_part T O {t} {o} v start end name =
     follows (view_row T O t o) (Array T 0) v.ghost_name name (λ ws. with_elements v.now (with_range v.now.elements.now start end ws))
 
--- the elements that v's bits from the index `from` up to `to` touch were lent so
+-- The elements that the bits of `v` from the index `from` up to `to` touch were lent under this name.
 abbrev pub lends_bits : (T O : RattleType) {t : Store T.Denot} {o : Order O.Denot} → MutBor (BitSliceMut T.Denot O.Denot t o) → ℕ → ℕ → GName → Fml
 lends_bits T O {t} {o} v from to name = lends_part T O v (first_touched t.BITS (v.now.head + from)) (end_touched t.BITS (v.now.head + to)) name

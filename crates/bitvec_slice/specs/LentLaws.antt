@@ -17,24 +17,24 @@ use Rattle.bitvec_slice.specs.WriteLaws.{writes_bits}
 use Rattle.bitvec_slice.specs.Writes.{WritesBits}
 use Rattle.bitvec_slice.specs.declared.view_mut.BitSliceMut.{BitSliceMut}
 
--- what follows where something is lent, and where nothing is
+-- Where something was lent, the lender ends with the lent range, from `start` up to `end`.
 pub lends-some : {X : Type 0} (end_as : ℕ → ℕ → X) (has : Bool) (first last start end : ℕ) → has ≡ true → first ≡ start → last ≡ end → end_as first last ≡ end_as (if has then start else 0) (if has then end else 0)
 lends-some end_as has first last start end is first_is last_is = rw (is, first_is, last_is) refl
 
--- What a lender ends as, and which of two values stands, by whether there is a piece.
+-- Where nothing was lent, the lender ends with an empty range at 0.
 pub lends-none : {X : Type 0} (end_as : ℕ → ℕ → X) (has : Bool) (start end : ℕ) → has ≡ false → end_as 0 0 ≡ end_as (if has then start else 0) (if has then end else 0)
 lends-none end_as has start end is = rw is refl
 
--- What a lender ends as, and which of two values stands, by whether there is a piece.
+-- Where `has` holds, the first of two values is the one that it selects.
 pub is-some : {X : Type 0} (has : Bool) (some none : X) → has ≡ true → some ≡ (if has then some else none)
 is-some has some none is = rw is refl
 
--- What a lender ends as, and which of two values stands, by whether there is a piece.
+-- Where `has` doesn't hold, the second of two values is the one that it selects.
 pub is-none : {X : Type 0} (has : Bool) (some none : X) → has ≡ false → none ≡ (if has then some else none)
 is-none has some none is = rw is refl
 
 module _ {T O : Type 0} {t : Store T} {o : Order O} where
-  -- the one bit of a part is the view's
+  -- A reference that writes the one bit of a part writes the view's bit there.
   pub bit-of_part : (view : Seen T) (index : ℕ) (part : BitSliceMut T O t o) (r : BitRefMut T O t o) → IsRangeOf t.BITS view index (index + 1) (seen_mut part) → IsBitOfView part r → WritesBitOf view index r
   bit-of_part view index part r is bit = record {
     bit = bit.bit ∙ ap (λ (list : List Bool). slice_index_or list 0 false) is.bits ∙ get-slice_range view.bits index (index + 1) 0 false (omega arith)
@@ -43,7 +43,7 @@ module _ {T O : Type 0} {t : Store T} {o : Order O} where
     elements = bit.elements ∙ is.elements;
   }
 
-  -- where nothing was lent, the view is written with its own bits
+  -- Where nothing was lent, the view ends with its own bits.
   pub lent-none : (v : BitSliceMut T O t o) (ws : List T) (has : Bool) (start end : ℕ) → has ≡ false
       → WritesBits v (with_elements v (with_range v.elements.now (if has then start else 0) (if has then end else 0) ws)) (seen_mut v).bits
   lent-none v ws has start end is_none =

@@ -12,15 +12,15 @@ use Rattle.bitvec_slice.specs.Views.{name_of, seen_mut}
 use Rattle.bitvec_slice.specs.declared.lent.Lent.{Lent}
 use Rattle.bitvec_slice.specs.declared.view_mut.BitSliceMut.{BitSliceMut}
 
--- whether something was lent, and what: an empty piece where nothing was
+-- Whether something was lent.
 abbrev pub is_lent : {P : Type 0} → Lent P → Bool
 is_lent l = l.has
 
--- `is_lent lent` and `piece_of lent` of a `Lent`: whether something was lent, and what.
+-- The piece that was lent, which is empty where nothing was.
 abbrev pub piece_of : {P : Type 0} → Lent P → P
 piece_of l = l.piece
 
--- the reference writes the one bit of this view
+-- The reference writes the first bit of this view, and borrows the view's elements.
 pub record IsBitOfView {T O : Type 0} {t : Store T} {o : Order O} (view : BitSliceMut T O t o) (r : BitRefMut T O t o) : Type 0 where
   pub bit : bit_of_ref_mut r ≡ slice_index_or (seen_mut view).bits 0 false
   pub place : place_of_ref_mut r ≡ (seen_mut view).window.start

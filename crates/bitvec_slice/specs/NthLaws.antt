@@ -38,7 +38,7 @@ module _ {T O : Type 0} {t : Store T} {o : Order O} where
       let now = rest.end in
       record { view = rest.view ∙ one.view; start = rest.start ∙ one.start; end = omega arith }
 
-  -- What `nth` and `nth_back` leave of a walk over bits.
+  -- After `nth(n)` the walk begins `n + 1` bits later, or at its end where it had no more bits.
   pub nth_leaves : (n : ℕ) (bit : Option (BitRef T O)) (before after : Iter T O t o) → SkipsThenYields (TakesFirst {t = t} {o = o}) before n bit after
       → Walks after (walked before) (min ((index_range before).start + n + 1) (index_range before).end) (index_range before).end
   nth_leaves n None before after is =
@@ -61,7 +61,7 @@ module _ {T O : Type 0} {t : Store T} {o : Order O} where
       let now = last.start in
       record { view = last.view ∙ passed.view; start = omega arith; end = last.end ∙ passed.end }
 
-  -- What `nth` and `nth_back` leave of a walk over bits.
+  -- After `nth_back(n)` the walk ends `n + 1` bits earlier, or at its start where it had no more bits.
   pub nth_back_leaves : (n : ℕ) (bit : Option (BitRef T O)) (before after : Iter T O t o) → SkipsThenYields (TakesLast {t = t} {o = o}) before n bit after
       → Walks after (walked before) (index_range before).start (max (index_range before).start ((index_range before).end - (n + 1)))
   nth_back_leaves n None before after is =

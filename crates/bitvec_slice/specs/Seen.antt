@@ -4,19 +4,19 @@ use Rattle.bitvec_base.specs.Memory.{list_in, memory_bits}
 use Rattle.bitvec_base.specs.declared.window.Window.{Window}
 use Rattle.bitvec_slice.specs.Touched.{touched_elements}
 
--- its bits, the elements that they touch, all bits of these, and where among them its own stand; the window's start is the view's phase
+-- What a view shows: its bits, the elements that they touch, all bits of these, and where among them its own stand.
 pub record Seen (T : Type 0) : Type 0 where
   pub bits : List Bool
   pub elements : List T
   pub memory : List Bool
   pub window : Window
 
--- the bits of its elements outside the view: those before it, and those after it
+-- The bits of a view's elements that are outside the view: those before it, and those behind it.
 unfoldable pub outside_of : {T : Type 0} → Seen T → List Bool × List Bool
 outside_of view = (take view.window.start view.memory, drop (view.window.start + view.window.len) view.memory)
 
 module _ {T : Type 0} (b : ℕ) (at : ℕ → ℕ → ℕ) (value : T → ℕ) where
-  -- what a view of `len` bits of these elements from the place `start` on shows
+  -- What a view of `len` bits of these elements from the place `start` on shows.
   abbrev pub shown : List T → ℕ → ℕ → Seen T
   shown elements start len =
       let window : Window = record { start = start; len = len } in
@@ -57,7 +57,7 @@ module _ {T : Type 0} (b : ℕ) where
     pub start : view.window.start ≡ 0
     pub len : view.window.len ≡ b * length view.elements
 
--- there is a value exactly where P holds, and it is one of which Q holds
+-- There is a value exactly where `P` holds, and `Q` holds of each value that there is.
 pub record IsGiven {X : Type 0} (P : Type 0) (Q : X → Type 0) (value : Option X) : Type 0 where
   pub some : IsSome value ↔ P
   pub gives : IfSome value Q

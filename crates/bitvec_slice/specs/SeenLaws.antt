@@ -1,4 +1,4 @@
--- The bits that a view shows, of all of a memory, and of a part of a view.
+-- The bits that a view shows of a whole memory, and of a part of a view.
 use Rattle.std.specs.Prelude.{◌≡◌, ℕ, ◌+◌, ◌-◌, ◌*◌, ◌%◌, ◌≤◌, List, [], length, map, slice_range, refl}
 use Rattle.std.proofs.Common.{arith, sym, ◌∙◌, ap}
 use Rattle.std.proofs.lemmas.List.{length-map, nil_from_length}
@@ -15,24 +15,24 @@ use Rattle.bitvec_slice.specs.Touched.{touched_elements}
 use Rattle.bitvec_slice.specs.TouchedLaws.{touched-bits}
 
 module _ {T : Type 0} (b : ℕ) (at : ℕ → ℕ → ℕ) (value : T → ℕ) where
-  -- Elements have `BITS` bits each.
+  -- Elements of `b` bits have `b` bits each, so that a memory has `b` times as many bits as elements.
   pub length-memory : (elements : List T) → length (memory_bits b at (map value elements)) ≡ b * length elements
   length-memory elements = length-memory_bits b at (map value elements) ∙ ap (λ (n : ℕ). b * n) (length-map elements value)
 
-  -- a view of all bits of some elements, and of no element
+  -- A view of as many bits as all elements have, from the place 0 on, is a view of all.
   pub whole_view : (view : Seen T) (elements : List T) (n : ℕ) → view ≡ shown b at value elements 0 n → n ≡ b * length elements → IsWhole b at value elements view
   unfolding window_of
   whole_view view elements n is all =
       let long = length-memory elements in
       rw is (record { bits = range-all (memory_bits b at (map value elements)) (0 + n) (omega arith); elements = refl; memory = refl; start = refl; len = all })
 
-  -- Which view is one of all bits, of none, of a range.
+  -- A view of all bits of no element is empty.
   pub no_view : (view : Seen T) → IsWhole b at value [] view → IsEmpty view
   no_view view is =
       let none : memory_bits b at [] ≡ [] = nil_from_length _ (length-memory_bits b at [] ∙ omega arith) in
       record { bits = is.bits ∙ none; elements = is.elements; memory = is.memory ∙ none; start = is.start; len = is.len ∙ omega arith }
 
-  -- the bits of a view of all bits of its elements are the memory's
+  -- A view that covers its elements has all bits of the memory.
   pub covered_bits : (elements : List T) (start len : ℕ) → CoversElements b (shown b at value elements start len)
       → memory_bits b at (map value elements) ≡ (shown b at value elements start len).bits
   unfolding window_of
@@ -46,7 +46,7 @@ module _ {T : Type 0} (b : ℕ) (at : ℕ → ℕ → ℕ) (value : T → ℕ) w
     pub within_memory : IsWithin (shown b at value elements start len).window (length (memory_bits b at (map value elements)))
     within_memory = let long = length-memory elements in record { start = omega arith; len = omega arith }
 
-    -- A view's window lies in the bits of its elements.
+    -- A view's window lies in a memory of at most `max_bits` bits.
     pub has_window : b * length elements ≤ max_bits → HasWindow b (map value elements) (shown b at value elements start len).window
     has_window bounded =
         let product = ap (λ (n : ℕ). b * n) (length-map elements value) in
@@ -56,7 +56,7 @@ module _ {T : Type 0} (b : ℕ) (at : ℕ → ℕ → ℕ) (value : T → ℕ) w
     pub length_bits : length (shown b at value elements start len).bits ≡ len
     length_bits = length-window (memory_bits b at (map value elements)) (shown b at value elements start len).window within_memory
 
-    -- a view of the elements that a range of the bits touches
+    -- A view of the elements that a range of a view's bits touches, at the range's place, is that range of the view.
     pub part_view : (part : Seen T) (from to : ℕ) → IsWidth b → from ≤ to → to ≤ len
         → part ≡ shown b at value (touched_elements b elements (start + from) (start + to)) ((start + from) % b) (to - from) → IsRangeOf b (shown b at value elements start len) from to part
     unfolding window_of

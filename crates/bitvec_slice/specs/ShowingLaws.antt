@@ -12,15 +12,15 @@ use Rattle.bitvec_slice.specs.declared.view_mut.BitSliceMut.{BitSliceMut}
 
 module _ {T O : Type 0} {t : Store T} {o : Order O} where
   module _ (v : BitSlice T O t o) where
-    -- Its window lies in its memory, and has at most `max_bits` bits; it shows what its elements hold.
+    -- A shared view shows its elements, which hold its window.
     pub shows-seen : ShowsElements t.BITS o.at t.value (seen v)
     shows-seen = shows_elements t.BITS o.at t.value v.elements.now v.head v.len v.inside v.bounded
 
-    -- A view has as many bits as its window.
+    -- A shared view has as many bits as its window.
     pub length-seen : length (seen v).bits ≡ (seen v).window.len
     length-seen = length_bits t.BITS o.at t.value v.elements.now v.head v.len v.inside
 
-    -- Its window lies in its memory, and has at most `max_bits` bits; it shows what its elements hold.
+    -- A shared view has at most `max_bits` bits.
     pub few-seen : (seen v).window.len ≤ max_bits
     few-seen =
         let inside = v.inside in
@@ -28,14 +28,14 @@ module _ {T O : Type 0} {t : Store T} {o : Order O} where
         omega arith
 
   module _ (v : BitSliceMut T O t o) where
-    -- Its window lies in its memory, and has at most `max_bits` bits; it shows what its elements hold.
+    -- A writable view shows its elements, which hold its window.
     pub shows-seen_mut : ShowsElements t.BITS o.at t.value (seen_mut v)
     shows-seen_mut = shows_elements t.BITS o.at t.value v.elements.now v.head v.len v.inside v.bounded
 
-    -- A view has as many bits as its window.
+    -- A writable view has as many bits as its window.
     pub length-seen_mut : length (seen_mut v).bits ≡ (seen_mut v).window.len
     length-seen_mut = length_bits t.BITS o.at t.value v.elements.now v.head v.len v.inside
 
-    -- Its window lies in its memory, and has at most `max_bits` bits; it shows what its elements hold.
+    -- A writable view's window lies in its memory.
     pub within-seen_mut : IsWithin (seen_mut v).window (length (seen_mut v).memory)
     within-seen_mut = within_memory t.BITS o.at t.value v.elements.now v.head v.len v.inside

@@ -2,10 +2,11 @@
 use Rattle.std.specs.Prelude.{◌≡◌, ℕ, ◌+◌, ◌-◌, ◌*◌, ◌/◌, ◌%◌, ◌<◌, ◌≤◌, List, slice_range}
 use Rattle.std.specs.Int.{div_ceil}
 
--- the first that the places from `start` on touch, and that past the last that the places up to `end` touch
+-- The index of the element of `b` bits that has the place `start`.
 abbrev pub first_touched : ℕ → ℕ → ℕ
 first_touched b start = start / b
 
+-- The index past the last element of `b` bits that has a place below `end`.
 abbrev pub end_touched : ℕ → ℕ → ℕ
 end_touched b end = div_ceil end b
 

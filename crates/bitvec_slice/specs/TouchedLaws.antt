@@ -11,6 +11,7 @@ use Rattle.bitvec_base.specs.WriteLaws.{length-slice_range, range-range}
 use Rattle.bitvec_slice.specs.Touched.{Touches, end_touched, first_touched, touched_elements}
 
 module _ (b n start end : ℕ) (some : 0 < b) (order : start ≤ end) (bound : end ≤ b * n) where
+  -- The elements that a range of places touches are in order, among the `n`, and hold the range.
   pub touches : Touches b n start end
   touches =
       let first = first_touched b start in
@@ -33,6 +34,7 @@ module _ (b n start end : ℕ) (some : 0 < b) (order : start ≤ end) (bound : e
         holds = omega arith;
       }
 
+-- The bits of a range are those of the elements that it touches, from the range's index in the first of them on.
 pub touched-bits : (b : ℕ) (at : ℕ → ℕ → ℕ) (xs : List ℕ) (start end n : ℕ) → 0 < b → start + n ≡ end → end ≤ b * length xs
     → slice_range (memory_bits b at (touched_elements b xs start end)) (start % b) (start % b + n) ≡ slice_range (memory_bits b at xs) start end
 touched-bits b at xs start end n some sum bound =
@@ -53,15 +55,18 @@ module _ {X : Type 0} (b : ℕ) (elements : List X) (start len from to : ℕ) (s
   touches_range : Touches b (length elements) (start + from) (start + to)
   touches_range = touches b (length elements) (start + from) (start + to) some (omega arith) (omega arith)
 
+  -- The elements that a view's range touches end at most at the last of the view's elements.
   pub touched_end : end_touched b (start + to) ≤ length elements
   touched_end = touches_range.bound
 
   length-touched : length (touched_elements b elements (start + from) (start + to)) ≡ end_touched b (start + to) - first_touched b (start + from)
   length-touched = length-slice_range elements (first_touched b (start + from)) (end_touched b (start + to)) touched_end
 
+  -- The elements that a view's range touches have room for its bits from its index in the first of them on.
   pub touched_holds : (start + from) % b + (to - from) ≤ b * length (touched_elements b elements (start + from) (start + to))
   touched_holds = let holds = touches_range.holds in rw length-touched (omega arith)
 
+  -- The elements that a view's range touches have at most as many bits as the view's elements.
   pub touched_few : (most : ℕ) → b * length elements ≤ most → b * length (touched_elements b elements (start + from) (start + to)) ≤ most
   touched_few most few =
       let within = touched_end in

@@ -14,15 +14,15 @@ use Rattle.bitvec_slice.specs.declared.bit_iters.BitRefIter.{BitRefIter}
 use Rattle.bitvec_slice.specs.declared.bit_iters.BitValIter.{BitValIter}
 
 module _ {T O : Type 0} {t : Store T} {o : Order O} where
-  -- the view that is walked, and the indices of its bits that are still to come
+  -- The view over whose bits the walk goes.
   abbrev pub walked : Iter T O t o → Seen T
   walked it = seen it.view
 
-  -- `walked it`, `index_range it`, `cut_by it`: the view, the indices, the way to cut.
+  -- The range of the indices, in the view, of the bits that a walk has still to give.
   abbrev pub index_range : Iter T O t o → Range ℕ
   index_range it = it.indices
 
-  -- these bits
+  -- The bits that a walk has still to give, in order.
   unfoldable pub remaining_bits : Iter T O t o → List Bool
   remaining_bits it = slice_range (seen it.view).bits it.indices.start it.indices.end
 
@@ -32,39 +32,43 @@ module _ {T O : Type 0} {t : Store T} {o : Order O} where
     pub start : (index_range it).start ≡ from
     pub end : (index_range it).end ≡ to
 
-  -- a call gave the first, or the last, of the bits that were still to come and left the others, or gave `None` where there were none
+  -- A call gave the first of the bits still to come and left the others, or gave `None` where there were none.
   abbrev pub TakesFirst : Iter T O t o → Option (BitRef T O) → Iter T O t o → Type 0
   TakesFirst before bit after =
       let range = index_range before in
       YieldsFirstBy (bit_of_ref {T = T} {O = O}) remaining_bits before bit after × Walks after (walked before) (min (range.start + 1) range.end) range.end
 
-  -- `TakesFirst`, `TakesLast`: what one call does.
+  -- A call gave the last of the bits still to come and left the others, or gave `None` where there were none.
   abbrev pub TakesLast : Iter T O t o → Option (BitRef T O) → Iter T O t o → Type 0
   TakesLast before bit after =
       let range = index_range before in
       YieldsLastBy (bit_of_ref {T = T} {O = O}) remaining_bits before bit after × Walks after (walked before) range.start (max range.start (range.end - 1))
 
-  -- two walks have the same still to come
+  -- The two walks go over the same view and have the same bits still to come.
   pub record IsSameWalk (first second : Iter T O t o) : Type 0 where
     pub bits : remaining_bits second ≡ remaining_bits first
     pub view : walked second ≡ walked first
     pub indices : index_range second ≡ index_range first
 
+  -- The bits that a walk by references has still to give.
   abbrev pub refs_left : BitRefIter T O t o → List Bool
   refs_left it = remaining_bits it.bits
 
+  -- The bits that a walk by values has still to give.
   abbrev pub vals_left : BitValIter T O t o → List Bool
   vals_left it = remaining_bits it.bits
 
-  -- what calls of `next`, or of `next_back`, give of such a walk is what is still to come, in its order, or from its end
+  -- What calls of `next`, or of `next_back`, give is what is still to come, in its order, or from its end.
   pub record YieldsBits (it : Iter T O t o) : Type 0 where
     pub front : EveryRun TakesFirst (λ p. ItemsMapTo p bit_of_ref (remaining_bits p.from))
     pub back : EveryRun TakesLast (λ p. ItemsMapToReversed p bit_of_ref (remaining_bits p.from))
 
+  -- What calls of `next`, or of `next_back`, give of a walk by references is what is still to come, in its order, or from its end.
   pub record YieldsRefs (it : BitRefIter T O t o) : Type 0 where
     pub front : EveryRun (YieldsFirstRef refs_left) (λ p. ItemsMapTo p (λ bit. bit.now) (refs_left p.from))
     pub back : EveryRun (YieldsLastRef refs_left) (λ p. ItemsMapToReversed p (λ bit. bit.now) (refs_left p.from))
 
+  -- What calls of `next`, or of `next_back`, give of a walk by values is what is still to come, in its order, or from its end.
   pub record YieldsVals (it : BitValIter T O t o) : Type 0 where
     pub front : EveryRun (YieldsFirst vals_left) (λ p. ItemsAre p (vals_left p.from))
     pub back : EveryRun (YieldsLast vals_left) (λ p. ItemsAreReversed p (vals_left p.from))

@@ -17,6 +17,7 @@ use Rattle.bitvec_slice.specs.Writes.{WritesBits}
 use Rattle.bitvec_slice.specs.declared.view_mut.BitSliceMut.{BitSliceMut}
 
 module _ {T O : Type 0} {t : Store T} {o : Order O} where
+  -- A view whose window's bits in the memory were written with `new` is written with `new`.
   pub writes_bits : (v : BitSliceMut T O t o) (xs : List T) (new : List Bool) → Writes t.BITS o.at (map t.value v.elements.now) (map t.value xs) (seen_mut v).window new → WritesBits v (with_elements v xs) new
   unfolding outside_of
   writes_bits v xs new writes =
@@ -42,10 +43,11 @@ module _ {T O : Type 0} {t : Store T} {o : Order O} where
         name = refl;
       }
 
-  -- where what was written is told by a slice and a window that are the view's
+  -- A write told of elements and a window that are the view's writes the view's bits.
   pub written : (v : BitSliceMut T O t o) (xs elements : List T) (window : Window) (made new : List Bool) → Writes t.BITS o.at (map t.value elements) (map t.value xs) window made
       → elements ≡ (seen_mut v).elements → window ≡ (seen_mut v).window → made ≡ new → WritesBits v (with_elements v xs) new
   written v xs elements window made new writes same place is = writes_bits v xs new (rw (same, place, is) at writes)
 
+  -- A view that was written with `new` has the bits `new`.
   pub has_written : (before after : BitSliceMut T O t o) (new : List Bool) → WritesBits before after new → (seen_mut after).bits ≡ new
   has_written before after new wrote = wrote.bits

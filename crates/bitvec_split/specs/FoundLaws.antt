@@ -1,4 +1,4 @@
--- A split of which the piece that was found last was lent keeps the elements that the piece doesn't touch.
+-- A split that lent the piece found last keeps the elements that the piece doesn't touch.
 use Rattle.std.specs.Prelude.{ℕ, ◌+◌, ◌<◌, List, length}
 use Rattle.std.proofs.Common.{arith}
 use Rattle.bitvec_store.specs.declared.store.BitStore.{Ghosts as Store}
@@ -13,14 +13,15 @@ use Rattle.bitvec_split.specs.SplitsLending.{with_elements}
 use Rattle.bitvec_split.specs.declared.lending.SplitsMut.{SplitsMut}
 
 module _ {T O P W L : Type 0} {t : Store T} {o : Order O} (s : SplitsMut T O P W L t o) where
-  -- where the elements begin and end that the piece touches
+  -- The index of the first element that the piece found last touches.
   abbrev pub first_of_found : ℕ
   first_of_found = first_touched t.BITS ((left_in s).view.window.start + (found_in s).start)
 
+  -- The index past the last element that the piece found last touches.
   abbrev pub end_of_found : ℕ
   end_of_found = end_touched t.BITS ((left_in s).view.window.start + (found_in s).end)
 
-  -- whatever was left in them
+  -- A split keeps the elements outside the piece that it found last, whatever was left in the piece's elements.
   pub found-keeps : (ws : List T) → 0 < t.BITS
       → KeepsOutside first_of_found end_of_found (left_in s).view.elements (left_in (with_elements s (with_range (left_in s).view.elements first_of_found end_of_found ws))).view.elements
   found-keeps ws some =

@@ -10,7 +10,7 @@ use Rattle.bitvec_slice.specs.Seen.{IsRangeOf, Seen}
 use Rattle.bitvec_domain.specs.Predicates.{MayAsk}
 use Rattle.bitvec_split.specs.Splits.{Limited, LimitedBy, RestBy, SplitRule, StepBy, row_of}
 
--- the view, the indices `from` up to `to` of the bits that no piece has yet, and the rest as in a shared split
+-- What a lending split has left: its view, the range of bits in no piece yet, whether it is finished, and its predicate.
 pub record LeftIn (T P : Type 0) : Type 0 where
   pub view : Seen T
   pub from : ℕ
@@ -18,37 +18,39 @@ pub record LeftIn (T P : Type 0) : Type 0 where
   pub finished : Bool
   pub pred : P
 
--- of a limited split, also how many pieces it may still lend
+-- What a limited lending split has left, and how many pieces it may still lend.
 abbrev pub LimitedSplitIn : (T P : Type 0) → Type 0
 LimitedSplitIn T P = Limited (LeftIn T P)
 
 module _ {T P : Type 0} where
+  -- A lending split of all bits of a view, which is finished if it is inclusive and the view is empty.
   abbrev pub unsplit_in : Bool → Seen T → P → LeftIn T P
   unsplit_in inclusive view pred = record { view = view; from = 0; to = view.window.len; finished = inclusive && (view.window.len == 0); pred = pred }
 
-  -- how many pieces come at least, and how many at most
+  -- How many pieces a lending split will lend at least.
   abbrev pub least_in : LeftIn T P → ℕ
   least_in s = if s.finished then 0 else 1
 
+  -- How many pieces a lending split will lend at most.
   abbrev pub most_in : LeftIn T P → ℕ
   most_in s = if s.finished then 0 else s.to - s.from + 1
 
-  -- the bits of which pieces are still to come
+  -- The bits of which a lending split has still to make pieces.
   abbrev pub uncut_in : LeftIn T P → List Bool
   uncut_in s = if s.finished then [] else slice_range s.view.bits s.from s.to
 
-  -- all that is left is the last piece
+  -- The piece is all that was left, and the split is finished.
   pub record GivesAllIn (s : LeftIn T P) (piece : Range ℕ) (t : LeftIn T P) : Type 0 where
     pub start : piece.start ≡ s.from
     pub end : piece.end ≡ s.to
     pub view : t.view ≡ s.view
     pub finished : t.finished ≡ true
 
-  -- and is given unasked
+  -- The call gives all that is left as the last piece, without asking, or nothing where the split is finished.
   abbrev pub SplitRestIn : LeftIn T P → Option (Range ℕ) → LeftIn T P → Type 0
   SplitRestIn s result t = RestBy s.finished (t ≡ s) (λ piece. GivesAllIn s piece t) (t.pred ≡ s.pred) result
 
-  -- one range of what is left is the piece, another is left
+  -- The piece is one range of what was left, and another range is left afterwards.
   pub record GivesRangeIn (inclusive : Bool) (range rest : ℕ × ℕ) (s : LeftIn T P) (piece : Range ℕ) (t : LeftIn T P) : Type 0 where
     pub start : piece.start ≡ s.from + range.0
     pub end : piece.end ≡ s.from + range.1
@@ -58,48 +60,51 @@ module _ {T P : Type 0} where
     pub finished : t.finished ≡ (inclusive && (t.to - t.from == 0))
 
 module _ {T P : Type 0} (g : Mut P (ℕ × (Bor Bool × Unit {0})) Bool) where
-  -- the predicate may always be called, or at least asked about all that is left of a split that isn't finished
+  -- The predicate may always be called, or, in a split that isn't finished, asked about all bits left.
   abbrev pub MayGoOnIn : LeftIn T P → Type 0
   MayGoOnIn s = always_mut g s.pred ⊎ (s.finished ≡ false → MayAsk g (s.to - s.from) s.pred)
 
-  -- as `SplitStep`, of ranges of the view
+  -- A call by a rule gives a range of the view as `SplitStep` gives a view.
   abbrev pub SplitStepIn : Bool → SplitRule → LeftIn T P → Option (Range ℕ) → LeftIn T P → Type 0
   SplitStepIn inclusive row s result t =
       StepBy s.finished (t ≡ s) (λ piece. GivesAllIn s piece t) g (slice_range s.view.bits s.from s.to) s.pred t.pred (λ range rest piece. GivesRangeIn inclusive range rest s piece t) row result
 
+  -- A call of `next` gives a range of the view by the rule of its end, which is the back in a reversed split.
   abbrev pub SplitNextIn : Bool → Bool → LeftIn T P → Option (Range ℕ) → LeftIn T P → Type 0
   SplitNextIn inclusive reversed s result t = SplitStepIn inclusive (row_of inclusive reversed (s.to - s.from)) s result t
 
+  -- A call of `next_back` gives a range of the view by the rule of its end, which is the front in a reversed split.
   abbrev pub SplitNextBackIn : Bool → Bool → LeftIn T P → Option (Range ℕ) → LeftIn T P → Type 0
   SplitNextBackIn inclusive reversed s result t = SplitStepIn inclusive (row_of inclusive (not reversed) (s.to - s.from)) s result t
 
+  -- A call of `next` of a limited split gives a range of the view: at its limit nothing, and as its last piece all that is left.
   abbrev pub LimitedNextIn : Bool → Bool → LimitedSplitIn T P → Option (Range ℕ) → LimitedSplitIn T P → Type 0
   LimitedNextIn inclusive reversed s result t =
       LimitedBy (λ left. left.finished) (λ left piece rest. SplitRestIn left (Some piece) rest) (λ left piece rest. SplitNextIn inclusive reversed left (Some piece) rest) s result t
 
-  -- of a split that has a limit or none; without one nothing is said of the count
+  -- A call of `next` gives a range of the view, by the limit where the split has one.
   abbrev pub NextIn : Bool → Bool → Bool → LimitedSplitIn T P → Option (Range ℕ) → LimitedSplitIn T P → Type 0
   NextIn inclusive reversed limited s result t = MatchBool limited (LimitedNextIn inclusive reversed s result t) (SplitNextIn inclusive reversed s.left result t.left)
 
--- so many pieces, or as many as the count permits, of a split that has a limit
+-- The number of pieces, but at most `count` where the split has a limit.
 abbrev pub capped : Bool → ℕ → ℕ → ℕ
 capped limited count pieces = if limited then min pieces count else pieces
 
--- a range, where one was found
+-- The range, where one was found.
 abbrev pub piece_if : Bool → Range ℕ → Option (Range ℕ)
 piece_if found range = if found then Some range else None
 
--- the view stays, and has the range that a step gave
+-- The view stays, and the range that a step gave lies in it.
 pub record StaysIn {T P : Type 0} (s : LeftIn T P) (result : Option (Range ℕ)) (t : LeftIn T P) : Type 0 where
   pub view : t.view ≡ s.view
   pub inside : IfSome result (λ range. HasRange range s.view.window.len)
 
--- What is lent, where the step gives a range of the view: that range. What is left then is known by the step alone.
+-- A call lends the range of the view that the step gives, if it gives one.
 abbrev pub Lends : {T S : Type 0} → ℕ → Seen T → (Option (Range ℕ) → S → Type 0) → Option (Seen T) → Type 0
 Lends {T} {S} b view step result =
     MatchOption result ((t : S) × step None t) (λ piece. (range : Range ℕ) × (t : S) × step (Some range) t × IsRangeOf b view range.start range.end piece)
 
--- what a call lends, of a split that has a limit or none
+-- A call of `next` lends the piece of a split, by the limit where the split has one.
 abbrev pub LendsNextIn : {T P : Type 0} → ℕ → Mut P (ℕ × (Bor Bool × Unit {0})) Bool → Bool → Bool → Bool → LimitedSplitIn T P → Option (Seen T) → Type 0
 LendsNextIn b g inclusive reversed limited s result =
     MatchBool limited (Lends b s.left.view (LimitedNextIn g inclusive reversed s) result) (Lends b s.left.view (SplitNextIn g inclusive reversed s.left) result)

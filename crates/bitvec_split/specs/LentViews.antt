@@ -10,16 +10,18 @@ use Rattle.bitvec_split.specs.Lent.{LeftIn, LimitedSplitIn}
 use Rattle.bitvec_split.specs.declared.lending.SplitsMut.{SplitsMut}
 
 module _ {T O P W L : Type 0} {t : Store T} {o : Order O} where
+  -- What a lending split has left.
   abbrev pub left_in : SplitsMut T O P W L t o → LeftIn T P
   left_in s = left_on (shown t.BITS o.at t.value s.elements.now s.head s.len) s.state
 
+  -- What a lending split with a limit has left, and how many pieces it may still lend.
   abbrev pub limited_in : SplitsMut T O P W L t o → LimitedSplitIn T P
   limited_in s = limited_on (shown t.BITS o.at t.value s.elements.now s.head s.len) s.state
 
-  -- the piece that was found last
+  -- The range of the piece that the split found last.
   abbrev pub found_in : SplitsMut T O P W L t o → Range ℕ
   found_in s = s.found
 
-  -- which memory it borrows, by its name among borrows
+  -- The name among borrows of the memory that a lending split borrows.
   abbrev pub name_of_splits : SplitsMut T O P W L t o → GName
   name_of_splits s = s.elements.ghost_name

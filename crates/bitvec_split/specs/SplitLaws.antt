@@ -1,4 +1,4 @@
--- What a caller knows of a piece, where its predicate is a function.
+-- What a caller knows of a piece where its predicate is a function.
 use Rattle.std.specs.Prelude.{◌≡◌, ℕ, ◌+◌, Bool, false, Option, Some, None, MatchOption, find, slice_index_or, unwrap_or}
 use Rattle.std.specs.Borrow.{Bor}
 use Rattle.std.specs.Fn.{Mut}
@@ -14,7 +14,7 @@ module _ {T P : Type 0} (b : ℕ) (s t : Left T P) (piece : Seen T) where
   ends_at None all = ap (λ (v : Seen T). v.window.len) all.gives
   ends_at (Some j) range = range.gives.len ∙ omega arith
 
-  -- the first piece has as many bits as stand before the first match, all if there is none
+  -- The first piece has as many bits as stand before the first match, and all bits where there is no match.
   pub first-piece : (g : Mut P (ℕ × (Bor Bool × Unit {0})) Bool) (test : ℕ → Bool → Bool)
       → ((index : ℕ) (bit answer : Bool) (next : P) → Asks g s.pred index bit answer next → (next ≡ s.pred) × (answer ≡ test index bit))
       → SplitNext b g false false s (Some piece) t

@@ -7,19 +7,18 @@ use Rattle.std.specs.declared.ops.Range.{Range}
 use Rattle.bitvec_slice.specs.Seen.{IsRangeOf, Seen}
 use Rattle.bitvec_domain.specs.Predicates.{Asked, MayAsk, downward, upward}
 
--- the bits that no piece has yet, whether the last piece was given, and the predicate as it is now
+-- What a split has left: the bits in no piece yet, whether the last piece was given, and the predicate as it is now.
 pub record Left (T P : Type 0) : Type 0 where
   pub rest : Seen T
   pub finished : Bool
   pub pred : P
 
--- of a limited split, what is left and how many pieces it may still give
+-- What a limited split has left, and how many pieces it may still give.
 pub record Limited (S : Type 0) : Type 0 where
   pub left : S
   pub count : ℕ
 
--- `Left`, `LeftIn`, `LimitedSplit`, `LimitedSplitIn` (`Splits`, `Lent`): the bits that no piece has, whether the last piece was given,
--- the predicate as it is now; how many pieces may still come.
+-- What a limited split of shared views, such as `splitn` of `bitvec` makes, has left, and how many pieces it may still give.
 abbrev pub LimitedSplit : (T P : Type 0) → Type 0
 LimitedSplit T P = Limited (Left T P)
 
@@ -28,21 +27,23 @@ module _ {T P : Type 0} where
   abbrev pub unsplit : Bool → Seen T → P → Left T P
   unsplit inclusive view pred = record { rest = view; finished = inclusive && (view.window.len == 0); pred = pred }
 
-  -- how many pieces come at least, and how many at most
+  -- How many pieces a split will give at least.
   abbrev pub least : Left T P → ℕ
   least s = if s.finished then 0 else 1
 
+  -- How many pieces a split will give at most.
   abbrev pub most : Left T P → ℕ
   most s = if s.finished then 0 else s.rest.window.len + 1
 
+  -- How many pieces a limited split will give at most.
   abbrev pub limited_most : LimitedSplit T P → ℕ
   limited_most s = min (most s.left) s.count
 
-  -- the bits of which pieces are still to come
+  -- The bits of which a split has still to make pieces.
   abbrev pub uncut : Left T P → List Bool
   uncut s = if s.finished then [] else s.rest.bits
 
--- the predicate may always be called, or at least asked about all that is left of a split that isn't finished
+-- The predicate may always be called, or, in a split that isn't finished, asked about all bits left.
 abbrev pub MayGoOn : {T P : Type 0} → Mut P (ℕ × (Bor Bool × Unit {0})) Bool → Left T P → Type 0
 MayGoOn g s = always_mut g s.pred ⊎ (s.finished ≡ false → MayAsk g s.rest.window.len s.pred)
 
@@ -61,34 +62,34 @@ pub record SplitRule : Type 0 where
   pub piece : ℕ → ℕ × ℕ
   pub keeps : ℕ → ℕ × ℕ
 
--- from the front: the bits before the first match are the piece, and those behind it are left
+-- The rule of a call from the front: the bits before the first match are the piece, and those behind it are left.
 abbrev pub front : Bool → ℕ → SplitRule
 front inclusive n = record { asks = upward n; piece = λ j. (0, end_of inclusive j); keeps = λ j. (j + 1, n) }
 
--- from the back: those behind the last match are the piece; an inclusive split doesn't ask about the last bit
+-- The rule of a call from the back: the bits behind the last match are the piece, and an inclusive split doesn't ask about the last bit.
 abbrev pub back : Bool → ℕ → SplitRule
 back inclusive n = record { asks = downward (asked_behind inclusive n); piece = λ j. (j + 1, n); keeps = λ j. (0, end_of inclusive j) }
 
--- a reversed split exchanges its ends
+-- The rule of a call of `next`: from the front, or from the back where the split is reversed.
 abbrev pub row_of : Bool → Bool → ℕ → SplitRule
 row_of inclusive reversed n = if reversed then back inclusive n else front inclusive n
 
--- how many of n bits a call asks about at most
+-- How many of `n` bits a call of `next` asks about at most.
 abbrev pub asked_of : Bool → Bool → ℕ → ℕ
 asked_of inclusive reversed n = if reversed then asked_behind inclusive n else n
 
--- how many of n bits are left where the match is at j
+-- How many of `n` bits a call of `next` leaves where the match is at `j`.
 abbrev pub left_of_row : Bool → Bool → ℕ → ℕ → ℕ
 left_of_row inclusive reversed n j = if reversed then end_of inclusive j else n - (j + 1)
 
--- the piece and what is left where the match is at j are those of the row
+-- The piece and the range left are those that the rule gives for a match at `j`.
 pub record IsCutBy (row : SplitRule) (j : ℕ) (piece rest : Range ℕ) : Type 0 where
   pub start : piece.start ≡ (row.piece j).0
   pub end : piece.end ≡ (row.piece j).1
   pub from : rest.start ≡ (row.keeps j).0
   pub to : rest.end ≡ (row.keeps j).1
 
--- two ranges of n bits lie side by side, and the second has fewer
+-- The piece and the range left are ranges of `n` bits that have no bit in common, and fewer than `n` are left.
 pub record LieBeside (n : ℕ) (piece rest : Range ℕ) : Type 0 where
   pub order : piece.start ≤ piece.end
   pub end : piece.end ≤ n
@@ -100,7 +101,7 @@ pub record LieBeside (n : ℕ) (piece rest : Range ℕ) : Type 0 where
 -- What a call does with a split that was `finished` or not, where pieces are of type X: `all piece` says that
 -- all that is left is the piece, `same` that the split is as it was.
 module _ {X : Type 0} (finished : Bool) (same : Type 0) (all : X → Type 0) where
-  -- all that is left is given, and nothing was asked
+  -- The call gives all that is left without asking, or nothing where the split is finished.
   abbrev pub RestBy : Type 0 → Option X → Type 0
   RestBy unasked result = MatchOption result ((finished ≡ true) × same) (λ piece. (finished ≡ false) × all piece × unasked)
 
@@ -123,39 +124,38 @@ LimitedBy finished rest next s result t =
     (next s.left piece t.left))
 
 module _ {T P : Type 0} where
-  -- all that is left is the last piece
+  -- The piece is all that was left, and the split is finished.
   pub record GivesAll (s : Left T P) (piece : Seen T) (t : Left T P) : Type 0 where
     pub gives : piece ≡ s.rest
     pub keeps : t.rest ≡ s.rest
     pub finished : t.finished ≡ true
 
-  -- and is given unasked
+  -- The call gives all that is left as the last piece, without asking, or nothing where the split is finished.
   abbrev pub SplitRest : Left T P → Option (Seen T) → Left T P → Type 0
   SplitRest s result t = RestBy s.finished (t ≡ s) (λ piece. GivesAll s piece t) (t.pred ≡ s.pred) result
 
 module _ {T P : Type 0} (b : ℕ) where
-  -- one range of what is left is the piece, another is left; an inclusive split that has none left is finished
+  -- The piece is one range of what was left, and another range is left; an inclusive split with none left is finished.
   pub record GivesRange (inclusive : Bool) (range rest : ℕ × ℕ) (s : Left T P) (piece : Seen T) (t : Left T P) : Type 0 where
     pub gives : IsRangeOf b s.rest range.0 range.1 piece
     pub keeps : IsRangeOf b s.rest rest.0 rest.1 t.rest
     pub finished : t.finished ≡ (inclusive && (t.rest.window.len == 0))
 
 module _ {T P : Type 0} (b : ℕ) (g : Mut P (ℕ × (Bor Bool × Unit {0})) Bool) where
-  -- a call by a row
+  -- A call by a rule gives the piece that the rule cuts off at the first match, or all that is left where there is none.
   abbrev pub SplitStep : Bool → SplitRule → Left T P → Option (Seen T) → Left T P → Type 0
   SplitStep inclusive row s result t =
       StepBy s.finished (t ≡ s) (λ piece. GivesAll s piece t) g s.rest.bits s.pred t.pred (λ range rest piece. GivesRange b inclusive range rest s piece t) row result
 
-  -- a call from the front, and one from the back
+  -- A call of `next` goes by the rule of its end, which is the back in a reversed split.
   abbrev pub SplitNext : Bool → Bool → Left T P → Option (Seen T) → Left T P → Type 0
   SplitNext inclusive reversed s result t = SplitStep inclusive (row_of inclusive reversed s.rest.window.len) s result t
 
-  -- `SplitNext`, `SplitNextBack`, `LimitedNext`, and with `In` of ranges: a finished split gives nothing and asks nothing; any other goes
-  -- by its rule.
+  -- A call of `next_back` goes by the rule of its end, which is the front in a reversed split.
   abbrev pub SplitNextBack : Bool → Bool → Left T P → Option (Seen T) → Left T P → Type 0
   SplitNextBack inclusive reversed s result t = SplitStep inclusive (row_of inclusive (not reversed) s.rest.window.len) s result t
 
-  -- a call of a limited split
+  -- A call of `next` of a limited split gives nothing at its limit, and all that is left as its last piece.
   abbrev pub LimitedNext : Bool → Bool → LimitedSplit T P → Option (Seen T) → LimitedSplit T P → Type 0
   LimitedNext inclusive reversed s result t =
       LimitedBy (λ left. left.finished) (λ left piece rest. SplitRest left (Some piece) rest) (λ left piece rest. SplitNext inclusive reversed left (Some piece) rest) s result t

@@ -1,4 +1,4 @@
--- What a split that lends ends as, where a piece was lent.
+-- What a split that lends ends as where a piece was lent.
 use Rattle.std.specs.Prelude.{ℕ, ◌+◌, ◌*◌, ◌≤◌, List}
 use Rattle.std.specs.Borrow.{Fml, GName, MutBor, RattleType, Array, follows}
 use Rattle.std.proofs.Common.{subst}
@@ -21,14 +21,14 @@ module _ {T O P W L : Type 0} {t : Store T} {o : Order O} where
       }
 
 module _ (T O P W L : RattleType) {t : Store T.Denot} {o : Order O.Denot} where
-  -- the elements from `start` up to `end` were lent under this name, and the split ends with what is left there and its other elements
+  -- The elements from `start` up to `end` were lent under this name, and the split ends with what is left there and the others.
   abbrev pub lends_part : MutBor (SplitsMut T.Denot O.Denot P.Denot W.Denot L.Denot t o) → ℕ → ℕ → GName → Fml
   lends_part s start end name = follows (the_row of_lender T O P W L t o) (Array T 0) s.ghost_name name (λ ws. with_elements s.now (with_range s.now.elements.now start end ws))
 
-  -- those that the bits from the index `from` up to `to` touch
+  -- The elements that the bits from the index `from` up to `to` touch were lent under this name.
   abbrev pub lends_bits : MutBor (SplitsMut T.Denot O.Denot P.Denot W.Denot L.Denot t o) → ℕ → ℕ → GName → Fml
   lends_bits s from to name = lends_part s (first_touched t.BITS (s.now.head + from)) (end_touched t.BITS (s.now.head + to)) name
 
-  -- those of the piece that was found last
+  -- The elements that the piece found last touches were lent under this name.
   abbrev pub lends_found : MutBor (SplitsMut T.Denot O.Denot P.Denot W.Denot L.Denot t o) → GName → Fml
   lends_found s name = lends_bits s s.now.found.start s.now.found.end name

@@ -6,13 +6,13 @@ use Rattle.bitvec_words.specs.declared.operator.BitOp.{BitOp}
 use Rattle.bitvec_within.specs.Combined.{combined_within}
 use Rattle.bitvec_within.specs.declared.combining_within.Ranges.{Ranges}
 
--- both lie in the memory
+-- Both ranges lie in the memory, which has at most `max_bits` bits.
 pub record HasRanges (b : ℕ) (xs : List ℕ) (r : Ranges) : Type 0 where
   pub fits : FitsMaxBits b xs
   pub source : r.from + r.len ≤ b * length xs
   pub target : r.to + r.len ≤ b * length xs
 
--- they lie apart, and the one that is written after the other, or before it
+-- The ranges lie apart: the range written lies behind the one read where the flag holds, and else before it.
 abbrev pub LieInOrder : Bool → Ranges → Type 0
 LieInOrder true r = r.from + r.len ≤ r.to
 LieInOrder false r = r.to + r.len ≤ r.from
@@ -27,18 +27,19 @@ abbrev pub AreSides : {X : Type 0} → Bool → ℕ → List X → List X → Li
 AreSides true n list left right = (list ≡ right ++ left) × (length right ≡ n)
 AreSides false n list left right = (list ≡ left ++ right) × (length left ≡ n)
 
--- the bits with those of the second range combined with those of the first
+-- The list with the bits of the range written combined by the operator with those of the range read.
 abbrev pub combined_ranges : BitOp → Ranges → List Bool → List Bool
 combined_ranges op r list = combined_within (operator op) r.from (r.from + r.len) r.to list
 
--- a memory becomes one that has these
+-- The new memory is the old one, as long, with the range written combined by the operator with the range read.
 pub record CombinesRanges (b : ℕ) (at : ℕ → ℕ → ℕ) (old new : List ℕ) (r : Ranges) (op : BitOp) : Type 0 where
   pub bits : memory_bits b at new ≡ combined_ranges op r (memory_bits b at old)
   pub elements : length new ≡ length old
 
--- the first n bits of each, and those behind them
+-- The ranges of the first `n` bits of both.
 abbrev pub first_of : Ranges → ℕ → Ranges
 first_of r n = record r { len = n }
 
+-- The ranges of the bits behind the first `n` of both.
 abbrev pub rest_of : Ranges → ℕ → Ranges
 rest_of r n = record { from = r.from + n; to = r.to + n; len = r.len - n }
