@@ -89,8 +89,7 @@ pub ruleset ordered = (orders, fed_same)
 -- This set closes goals about a `BitVec` that grows: its length and memory, the bits that it begins with, and what stands around its bits.
 pub ruleset grown = (width_some, length-owned, owned-room, begins-own, begins-more, around-then, around-written, holds-then)
 
--- This set closes goals after `insert`, `remove`, `swap_remove` and `drain` of a `BitVec`: each bit, how many there are, and what undoes
--- what.
+-- This set closes goals after `insert`, `remove`, `swap_remove` and `drain` of a `BitVec`: each bit, how many, and what undoes what.
 pub ruleset reindexed = (width_some, length-owned, length-inserted_one, length-removed_one, length-swap_remove, length-remove_range, get-insert_before, get-insert_at, get-insert_behind, get-remove_before, get-remove_behind, get-swap_remove_at, get-swap_remove_other, get-remove_range_before, get-remove_range_behind, remove-insert, insert-remove)
 
 -- This set closes goals about std's adapters of a walk: they give the items that were still to come, one after the other.

@@ -27,8 +27,7 @@ pub ruleset ranged = (get-filled_outside, get-filled_inside, get-flipped_outside
 -- This set closes goals about the number of a range: it was stored there, lies beside an edit, or is below a power of 2.
 pub ruleset numbers = (number-stored, number-below, number-numbered, number-set, number-swap, number-written, number-copied, loaded-part_below, number-filled, number-flipped, number-reversed, number-rotated_left, number-rotated_right, number-moved_start, number-moved_end, number-joined, number-beside, number-swapped, number-combined)
 
--- This set closes goals about a stored number by its parts or from its other end, about a filled range's number, and about one that was
--- moved.
+-- This set closes goals about a stored number by its parts or from its other end, about a filled range's number, and a moved one.
 pub ruleset parts = (number-part, number-other_end, number-cleared, number-filled_up, number-copied_to, number-swapped_to, number-swapped_from)
 
 -- This set closes goals about the bits of a range of which questions are asked: each, how many, beside an edit, and where it was filled.

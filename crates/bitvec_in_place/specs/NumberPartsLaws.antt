@@ -236,19 +236,19 @@ module _ (big high : Bool) (b : ℕ) (old new : List Bool) (a e from place : ℕ
       whole
 
 module _ (big high : Bool) (b from to dest : ℕ) (list : List Bool) (a e : ℕ) (some : 0 < b) (source : from ≤ to) (inside : to ≤ length list) (room : dest + (to - from) ≤ length list) (order : a ≤ e) where
-  -- A part of a copy has its source's number, where `big` is `high` or `from` and `dest` are whole elements apart.
+  -- A part of a copy has its source's number, where `big` is `high` or copy and source begin at one index in an element.
   pub number-copied_to : dest ≤ a → e ≤ dest + (to - from) → (big ≡ high) ⊎ (from % b ≡ dest % b) → number_in big high b (copied_within from to dest list) a e ≡ number_in big high b list (from + (a - dest)) (from + (e - dest))
   number-copied_to low high_end whole =
       number-moved big high b list (copied_within from to dest list) a e from dest some order low (lasting.length-copied_within from to dest list inside room) (omega arith) (omega arith) whole
       (λ k d above below. get-copied_inside from to dest list k d inside room (omega arith) (omega arith))
 
-  -- After a swap, a part at `dest` has its old number at `from`, where `big` is `high` or both are whole elements apart.
+  -- After a swap, a part at `dest` has its number at `from`, where `big` is `high` or both begin alike in their elements.
   pub number-swapped_to : dest ≤ a → e ≤ dest + (to - from) → (big ≡ high) ⊎ (from % b ≡ dest % b) → number_in big high b (swapped_within from to dest list) a e ≡ number_in big high b list (from + (a - dest)) (from + (e - dest))
   number-swapped_to low high_end whole =
       number-moved big high b list (swapped_within from to dest list) a e from dest some order low (length-swapped from to dest list source inside room) (omega arith) (omega arith) whole
       (λ k d above below. get-swapped_back from to dest list source inside room k d (omega arith) (omega arith))
 
-  -- After a swap of ranges apart, a part at `from` has its old number at `dest`, where `big` is `high` or they are whole elements apart.
+  -- After a swap of ranges apart, a part at `from` has its number at `dest`, where `big` is `high` or both begin alike in elements.
   pub number-swapped_from : LieApart from to dest → from ≤ a → e ≤ to → (big ≡ high) ⊎ (dest % b ≡ from % b) → number_in big high b (swapped_within from to dest list) a e ≡ number_in big high b list (dest + (a - from)) (dest + (e - from))
   number-swapped_from apart low high_end whole =
       number-moved big high b list (swapped_within from to dest list) a e dest from some order low (length-swapped from to dest list source inside room) (omega arith) (omega arith) whole
