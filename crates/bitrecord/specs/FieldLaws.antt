@@ -29,7 +29,7 @@ beside-side : (other field : Window) (i : ℕ) → i < other.len → (other.star
 beside-side other field i low sides =
     ⊎_elim (λ (front : other.start + other.len ≤ field.start). inl (omega arith)) (λ (behind : field.start + field.len ≤ other.start). inr (omega arith)) sides
 
--- a window apart from that which was written has the bits that it had
+-- A window apart from the field that was written has the bits that it had.
 pub window-kept : (before after : List Bool) (field other : Window) → AreApart other field → IsWithin other (length before) → IsWithin other (length after)
     → ((place : ℕ) (d : Bool) → IsBeside field place → slice_index_or after place d ≡ slice_index_or before place d) → window_of after other ≡ window_of before other
 window-kept before after field other apart inside also kept =
@@ -47,6 +47,7 @@ apart-from bits fields k n layout low below other =
 
 -- the numbers of all fields where one has a number and the bits beside it are as before
 module _ (endian : Endian) (high : Bool) (b s : ℕ) where
+  -- Where one field has a number and all other bits are as before, the fields' numbers are the old ones with this one set.
   pub numbers-set : (bits n value : ℕ) (fields : List Window) (before after : List Bool) → IsLayout bits fields → length before ≡ bits → length after ≡ bits → n < length fields
       → field_number endian high b s after (field_at fields n) ≡ value
       → ((place : ℕ) (d : Bool) → IsBeside (field_at fields n) place → slice_index_or after place d ≡ slice_index_or before place d)
@@ -64,7 +65,7 @@ module _ (endian : Endian) (high : Bool) (b s : ℕ) where
       (rw long (layout.inside k few)) (rw also (layout.inside k few)) kept)
       ∙ sym (get_or-map (field_number endian high b s before) fields k no_field d few) ∙ sym (get_or-set_other (record_in endian high b s before fields) n k value d other)) (same-or-not k n))
 
-  -- a field's number has no more bits than the field
+  -- The number of a field of `n` bits is below `2^n`.
   pub number-below : (bits n : ℕ) (fields : List Window) (list : List Bool) → IsLayout bits fields → length list ≡ bits → n < length fields
       → field_number endian high b s list (field_at fields n) < 2 ^ (field_at fields n).len
   number-below bits n fields list layout long below =

@@ -25,29 +25,31 @@ use Rattle.bitrecord.specs.declared.endian.Endian.TheVariants as end
 use Rattle.bitrecord.specs.declared.layout.Layout.{Layout}
 use Rattle.bitrecord.specs.Views.{bits_of, fields_of}
 
--- the bits in no field are the same
+-- `AgreeOutside fields x y` says that two lists have the same bits at each place that is in no field.
 abbrev pub AgreeOutside : List Window → List Bool → List Bool → Type 0
 AgreeOutside fields x y = (place : ℕ) (d : Bool) → IsOutside fields place → slice_index_or x place d ≡ slice_index_or y place d
 
--- the fields of a layout are one
+-- The fields of a `Layout` are a layout of its bits.
 pub is-layout : {A : Type 0} (layout : Layout A) → IsLayout (bits_of layout) (fields_of layout)
 is-layout layout = layout.layout
 
--- lists of one length with one number are one list
+-- Two lists of one length with one number are one list.
 pub number-determines : (endian : Endian) (high : Bool) (b s : ℕ) (x y : List Bool) → 0 < b → length x ≡ length y → number_of endian high b s x ≡ number_of endian high b s y → x ≡ y
 number-determines end.Little high b s x y some long same = loaded_le-determines high b s x y some long same
 number-determines end.Big high b s x y some long same = loaded_be-determines high b s x y some long same
 
--- a place lies in a field, or beside it; and in some field before the number, or in none
+-- A place is beside a field or in it, so what follows of either holds.
 pub beside-or-in : {P : Type 0} (field : Window) (place : ℕ) → (IsBeside field place → P) → (field.start ≤ place → place < field.start + field.len → P) → P
 beside-or-in {P} field place beside inside =
     let sides : (place < field.start) ⊎ (field.start ≤ place) = grind arith in
     let ends : (place < field.start + field.len) ⊎ (field.start + field.len ≤ place) = grind arith in
     ⊎_elim (λ front. beside (inl front)) (λ from. ⊎_elim (λ below. inside from below) (λ behind. beside (inr behind)) ends) sides
 
+-- A number below `n + 1` is below `n`, or it is `n`.
 pub earlier_or_this : (k n : ℕ) → k < n + 1 → (k < n) ⊎ (k ≡ n)
 earlier_or_this k n low = grind arith
 
+-- A place is in none of the first `n` fields or in one of them, so what follows of either holds.
 pub outside-or-in : {P : Type 0} (fields : List Window) (place n : ℕ) → (((k : ℕ) → k < n → IsBeside (field_at fields k) place) → P)
     → ((k : ℕ) → k < n → (field_at fields k).start ≤ place → place < (field_at fields k).start + (field_at fields k).len → P) → P
 outside-or-in {P} fields place zero outside inside = outside (λ k low. absurd (omega arith))
@@ -58,7 +60,7 @@ outside-or-in {P} fields place (suc n) outside inside =
     (λ from below. inside n (omega arith) from below))
     (λ k low from below. inside k (omega arith) from below)
 
--- lists with the same number in each field, and the same bits in none, are one list
+-- Two lists of one length with the same number in each field and the same bits in no field are one list.
 pub fields-determine : (endian : Endian) (high : Bool) (b s : ℕ) (fields : List Window) (x y : List Bool) → 0 < b → length x ≡ length y → EachField (λ field. IsWithin field (length x)) fields
     → ((k : ℕ) → k < length fields → field_number endian high b s x (field_at fields k) ≡ field_number endian high b s y (field_at fields k)) → AgreeOutside fields x y → x ≡ y
 fields-determine endian high b s fields x y some long inside same outside = same_lists x y long (λ place d low.
@@ -73,22 +75,23 @@ fields-determine endian high b s fields x y some long inside same outside = same
     let inner : at < field.len = omega arith in
     ap (λ (n : ℕ). slice_index_or x n d) (sym there) ∙ sym (get-window x field at d inner) ∙ ap (λ (l : List Bool). slice_index_or l at d) one ∙ get-window y field at d inner ∙ ap (λ (n : ℕ). slice_index_or y n d) there))
 
--- the number of one field of the numbers of all
+-- Number `k` of the numbers of a record is that of field `k`.
 pub number-of-record : (endian : Endian) (high : Bool) (b s : ℕ) (list : List Bool) (fields : List Window) (k : ℕ) (e : ℕ) → k < length fields
     → slice_index_or (record_in endian high b s list fields) k e ≡ field_number endian high b s list (field_at fields k)
 number-of-record endian high b s list fields k e low = get_or-map (field_number endian high b s list) fields k no_field e low
 
--- records of the same numbers, and the same bits in no field, are equal
+-- Two records of one length with the same numbers and the same bits in no field are one.
 pub record-determines : (endian : Endian) (high : Bool) (b s : ℕ) (fields : List Window) (x y : List Bool) → 0 < b → length x ≡ length y → EachField (λ field. IsWithin field (length x)) fields
     → record_in endian high b s x fields ≡ record_in endian high b s y fields → AgreeOutside fields x y → x ≡ y
 record-determines endian high b s fields x y some long inside same outside = fields-determine endian high b s fields x y some long inside
     (λ k low. sym (number-of-record endian high b s x fields k 0 low) ∙ ap (λ (l : List ℕ). slice_index_or l k 0) same ∙ number-of-record endian high b s y fields k 0 low) outside
 
--- the number of a field fits it: the numbers of a record can be encoded
+-- The number of a list of `n` bits is below `2^n`.
 pub number-fits : (endian : Endian) (high : Bool) (b s : ℕ) (list : List Bool) → number_of endian high b s list < 2 ^ length list
 number-fits end.Little high b s list = loaded_le-below high b s list
 number-fits end.Big high b s list = loaded_be-below high b s list
 
+-- The numbers that a record has can be encoded: there is one a field, and each fits its field.
 pub record-encodable : (endian : Endian) (high : Bool) (b s : ℕ) (list : List Bool) (fields : List Window) → EachField (λ field. IsWithin field (length list)) fields → AreEncodable fields (record_in endian high b s list fields)
 record-encodable endian high b s list fields inside = record {
   count = length-map fields (field_number endian high b s list);
@@ -96,23 +99,24 @@ record-encodable endian high b s list fields inside = record {
       (rw (length-window list (field_at fields k) (inside k low)) at (number-fits endian high b (s + (field_at fields k).start) (window_of list (field_at fields k))));
 }
 
--- values that can be encoded are not refused
+-- Values that can be encoded are not refused.
 pub encodable-accepted : {X : Type 0} (fields : List Window) (values : List ℕ) (r : Result X EncodeError) → AreEncodable fields values → IfErr r (IsRefusal fields values) → IsOk r
 encodable-accepted fields values (Ok x) able why = refl
 encodable-accepted fields values (Err refusal.Count) able why = absurd (why able.count)
 encodable-accepted fields values (Err (refusal.Range i)) able why = let large = why.large in let fit = able.fit i why.below in absurd (omega arith)
 
+-- What holds where `encode` succeeds holds of values that can be encoded.
 pub encodable-done : {X P : Type 0} (fields : List Window) (values : List ℕ) (r : Result X EncodeError) → AreEncodable fields values → IfErr r (IsRefusal fields values) → OnOk r P → P
 encodable-done fields values (Ok x) able why done = done
 encodable-done fields values (Err refusal.Count) able why done = absurd (why able.count)
 encodable-done fields values (Err (refusal.Range i)) able why done = let large = why.large in let fit = able.fit i why.below in absurd (omega arith)
 
--- what follows of two things that hold on success
+-- What follows of two facts that hold on success holds on success.
 pub on-ok-both : {X E P Q R : Type 0} (r : Result X E) → OnOk r P → OnOk r Q → (P → Q → R) → OnOk r R
 on-ok-both (Ok x) p q then = then p q
 on-ok-both (Err e) p q then = tt
 
--- views that show the same have the same numbers
+-- Two views that show the same have records of the same numbers.
 pub seen-record : {T : Type 0} (endian : Endian) (high : Bool) (b : ℕ) (fields : List Window) (x y : Seen T) → x ≡ y
     → record_in endian high b x.window.start x.bits fields ≡ record_in endian high b y.window.start y.bits fields
 seen-record {T} endian high b fields x y same = ap (λ (v : Seen T). record_in endian high b v.window.start v.bits fields) same
@@ -121,6 +125,7 @@ seen-record {T} endian high b fields x y same = ap (λ (v : Seen T). record_in e
 zip-long : (fields : List Window) (values : List ℕ) → length values ≡ length fields → length (zip fields values) ≡ length fields
 zip-long fields values many = sym (length-map (zip fields values) (λ (p : Window × ℕ). p.0)) ∙ ap length (firsts-zip fields values many)
 
+-- A field and its value stand somewhere in any other order of both, so what follows of that holds.
 pub stands-among : {P : Type 0} (fields : List Window) (values : List ℕ) (others : List Window) (numbers : List ℕ) → length values ≡ length fields → length numbers ≡ length others → IsPermutation (zip fields values) (zip others numbers) → (k : ℕ) → k < length fields
     → ((j : ℕ) → j < length others → field_at others j ≡ field_at fields k → slice_index numbers j ≡ slice_index values k → P) → P
 stands-among {P} fields values others numbers many also order k low then =
@@ -137,7 +142,7 @@ stands-among {P} fields values others numbers many also order k low then =
     then j few (ap (λ (p : Window × ℕ). p.0) at-j) (ap (λ (p : Window × ℕ). p.1) at-j)
 
 module _ {T O : Type 0} {t : Store T} {o : Order O} (endian : Endian) (high : Bool) where
-  -- views that have the same bits in no field, and into which the same values were written: they have the same bits
+  -- Two views of one window that agree outside the fields have the same bits after the same values were written into both.
   pub writes-determine : (fields : List Window) (values : List ℕ) (first one second other : BitSliceMut T O t o) → 0 < t.BITS → EachField (λ field. IsWithin field (seen_mut first).window.len) fields
       → (seen_mut second).window ≡ (seen_mut first).window → AgreeOutside fields (seen_mut first).bits (seen_mut second).bits
       → WritesRecord endian high fields values first one → WritesRecord endian high fields values second other → (seen_mut one).bits ≡ (seen_mut other).bits
@@ -151,7 +156,7 @@ module _ {T O : Type 0} {t : Store T} {o : Order O} (endian : Endian) (high : Bo
       ∙ sym (also.numbers k low) ∙ ap (λ (w : Window). field_number endian high t.BITS w.start (seen_mut other).bits (field_at fields k)) there)
       (λ k d outside. wrote.others k d outside ∙ agree k d outside ∙ sym (also.others k d outside))
 
-  -- the numbers that a record has, written into it, change nothing
+  -- The numbers that a record has, written into it again, leave its bits.
   pub written-back : (fields : List Window) (before after : BitSliceMut T O t o) → 0 < t.BITS → EachField (λ field. IsWithin field (seen_mut before).window.len) fields
       → WritesRecord endian high fields (record_in endian high t.BITS (seen_mut before).window.start (seen_mut before).bits fields) before after → WritesBits before after (seen_mut before).bits
   written-back fields before after some inside wrote =
@@ -164,7 +169,7 @@ module _ {T O : Type 0} {t : Store T} {o : Order O} (endian : Endian) (high : Bo
       wrote.others in
       subst (WritesBits before after) same wrote.written
 
-  -- a record written field by field is written in each order of the fields, each with its value
+  -- Values that were written into their fields are written in any other order of the fields, each with its value.
   pub order-free : (fields : List Window) (values : List ℕ) (others : List Window) (numbers : List ℕ) (before after : BitSliceMut T O t o) → length values ≡ length fields → length numbers ≡ length others
       → IsPermutation (zip fields values) (zip others numbers) → WritesRecord endian high fields values before after → WritesRecord endian high others numbers before after
   order-free fields values others numbers before after many also order wrote = record {
@@ -175,12 +180,13 @@ module _ {T O : Type 0} {t : Store T} {o : Order O} (endian : Endian) (high : Bo
     written = wrote.written;
   }
 
-  -- the numbers that a record has can be encoded, and what this leaves
+  -- Values that are the numbers of a view's record can be encoded.
   pub encodable-back : (fields : List Window) (values : List ℕ) (before : BitSliceMut T O t o) → EachField (λ field. IsWithin field (seen_mut before).window.len) fields
       → values ≡ record_in endian high t.BITS (seen_mut before).window.start (seen_mut before).bits fields → AreEncodable fields values
   encodable-back fields values before inside told =
       subst (AreEncodable fields) (sym told) (record-encodable endian high t.BITS (seen_mut before).window.start (seen_mut before).bits fields (λ k low. rw (length-seen_mut before) (inside k low)))
 
+  -- An `encode` of the numbers that a view's record has leaves the view's bits.
   pub encoded-back : {X : Type 0} (fields : List Window) (values : List ℕ) (before after : BitSliceMut T O t o) (r : Result X EncodeError) → 0 < t.BITS → EachField (λ field. IsWithin field (seen_mut before).window.len) fields
       → values ≡ record_in endian high t.BITS (seen_mut before).window.start (seen_mut before).bits fields → IfErr r (IsRefusal fields values) → OnOk r (WritesRecord endian high fields values before after)
       → WritesBits before after (seen_mut before).bits

@@ -20,7 +20,7 @@ use Rattle.bitvec_owned.specs.declared.bit_vec.BitVec.{BitVec}
 -- ---- of an array
 
 module _ {T O : Type 0} {N : ℕ} {t : Store T} {o : Order O} where
-  -- an array that wasn't edited has its own bits written
+  -- A `BitArray` that was not edited has been written with its own bits.
   pub array-none : (a : BitArray T O N t o) → WritesArray a a (in_array a).bits
   unfolding window_of
   array-none a =
@@ -28,7 +28,7 @@ module _ {T O : Type 0} {N : ℕ} {t : Store T} {o : Order O} where
       let n : ℕ = t.BITS * length (elements_of a) in
       record { bits = refl; memory = sym (range-all (in_array a).memory (0 + n) (omega arith)); window = refl; length = refl }
 
-  -- of two edits the last bits stay
+  -- Two edits of a `BitArray`, one after the other, are one edit, which leaves the bits of the second.
   pub array-then : (first second last : BitArray T O N t o) (x y : List Bool) → WritesArray first second x → WritesArray second last y → WritesArray first last y
   array-then first second last x y one two =
       record { bits = two.bits; memory = two.memory; window = two.window ∙ one.window; length = two.length ∙ one.length }
@@ -50,7 +50,7 @@ module _ {T O A : Type 0} {t : Store T} {o : Order O} (some : 0 < t.BITS) where
   long : (v : BitVec T O A t o) → length (owned v).bits ≡ (owned v).window.len
   long v = length_bits t.BITS o.at t.value v.elements.items v.head v.len (inside v)
 
-  -- A `BitVec`, and a `BitArray`, has been written with its own bits.
+  -- A `BitVec` that was not edited has been written with its own bits.
   pub owned-none : (v : BitVec T O A t o) → WritesOwned v v (owned v).bits
   owned-none v = record {
     bits = refl;
@@ -62,7 +62,7 @@ module _ {T O A : Type 0} {t : Store T} {o : Order O} (some : 0 < t.BITS) where
     holds = λ list from held. subst (λ (l : List Bool). Holds t.BITS l from (owned v)) (sym held.bits) held;
   }
 
-  -- A write and then another are the second one of what was there first.
+  -- Two edits of a `BitVec`, one after the other, are one edit, which leaves the bits of the second.
   pub owned-then : (first second last : BitVec T O A t o) (x y : List Bool) → WritesOwned first second x → WritesOwned second last y → WritesOwned first last y
   owned-then first second last x y one two =
       let m = (owned first).memory in
@@ -80,6 +80,6 @@ module _ {T O A : Type 0} {t : Store T} {o : Order O} (some : 0 < t.BITS) where
         holds = λ list from held. two.holds x from (one.holds list from held);
       }
 
-  -- told by the last bits
+  -- Two edits of a `BitVec`, one after the other, are one edit, which leaves the bits that it has at last.
   pub owned-both : (first second last : BitVec T O A t o) (x y : List Bool) → WritesOwned first second x → WritesOwned second last y → WritesOwned first last (owned last).bits
   owned-both first second last x y one two = subst (λ (l : List Bool). WritesOwned first last l) (sym two.bits) (owned-then first second last x y one two)

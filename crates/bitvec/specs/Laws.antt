@@ -43,110 +43,108 @@ use Rattle.bitvec_store.specs.WidthLaws.{width_some}
 use Rattle.bitvec_domain.specs.FeedingLaws.{fed_same}
 use Rattle.bitvec_elements.specs.OrderLaws.{ordered as orders}
 
--- a view has as many bits as its window
+-- This set closes goals about how many bits a view has: as many as its window.
 pub ruleset lengths = (length_bits)
 
--- and elements have `BITS` times as many
+-- This set closes goals about how many bits a view and elements have: elements have `BITS` times as many.
 pub ruleset sized = (lengths, length-memory_bits, length-bits_of)
 
--- after `first_one`, `first_zero`, `last_one`, `last_zero`: the place is below the length, it has the bit,
--- none before it or after it has; or none has; of a view, and of a range in place
+-- This set closes goals after `first_one`, `last_zero` and the like: the place and what stands around it; in place also numbers there,
+-- `all` and `any`.
 pub ruleset found = (lengths, first_place-below, first_place-bit, first_place-before, first_place-absent, last_place-below, last_place-bit, last_place-after, last_place-absent, first_in-below, first_in-bit, first_in-before, first_in-absent, last_in-below, last_in-bit, last_in-after, last_in-absent, number-before_one, number-at_one, number-without_one, all_in-true, all_in-none, all_in-false, any_in-true, any_in-false)
 
--- after `set`: what `get` and `bits[i]` give at the index and at another
+-- This set closes goals after a `set`: what `get` and `bits[i]` read at the index and at others.
 pub ruleset written = (lengths, get_or-set_at, get_or-set_other, length-set)
 
--- after `edit_with`: what stands before the part, in it and behind it
+-- This set closes goals after `edit_with`: what stands before the part, in it and behind it.
 pub ruleset spliced = (lengths, get-window, get-slice_range, get-write_at_below, get-write_at_inside, get-write_at_above, length-slice_range, length-window, length-write_at, length-stored, range-write_at, range-write_at_before, range-write_at_after, range-set_before, range-set_inside, range-set_after)
 
--- after `and_within`, `or_within`, `xor_within`: each bit and range, those that were written and those beside them
+-- This set closes goals after `and_within`, `or_within` and `xor_within`: each bit and each range, written or beside.
 pub ruleset overlaid = (lengths, get-combined_within_below, get-combined_within_inside, get-combined_within_above, length-combined_within, range-combined_within, range-combined_within_before, range-combined_within_after)
 
--- edits of one view, one sequence or one array of bits, one after the other, as one edit; of a view of which nothing was lent; and of one range of an array
+-- This set closes goals that several edits of one view, `BitVec`, `BitArray` or range of an array are one edit; no edit counts as one too.
 pub ruleset composed = (written-none, written-then, written-around, lent-none, width_some, owned-none, owned-then, owned-both, array-none, array-then, changes-none, changes-then, changed)
 
--- `count_ones` and `count_zeros`: both make the length; after `set`; after calls that move bits or flip them
+-- This set closes goals about `count_ones` and `count_zeros`: they make the length, and change by one after a `set`; `!` exchanges them.
 pub ruleset counted = (lengths, ones_and_zeros, ones-more, ones-fewer, zeros-more, zeros-fewer, ones-flipped, zeros-flipped)
 
+-- This set closes goals that the counts after `reverse`, `rotate_left` and `rotate_right` are as before.
 pub ruleset moved = (lengths, ones-reversed, ones-rotated_left, ones-rotated_right, zeros-reversed, zeros-rotated_left, zeros-rotated_right)
 
--- of the parts before and after an index
+-- This set closes goals that the ones before an index and those from it on make the ones of the view, as after `split_at`.
 pub ruleset parted = (lengths, ones-front, ones-rest, ones-whole)
 
--- after `fill`: each bit, how many are 1 and 0, what is found, `all` and `any`
+-- This set closes goals after `fill`: each bit, the counts, what is found, and what `all` and `any` say.
 pub ruleset uniform = (lengths, get_or-replicate, ones-all, ones-none, zeros-all, zeros-none, first-filled, first-of_filled, last-filled, all-filled, any-filled)
 
--- after `eq_bits`: whether the lists are equal
+-- This set closes goals after `eq_bits`, which is true exactly where the two lists of bits are equal.
 pub ruleset compared = (same-equal, equal-same)
 
--- after `starts_with`, `ends_with`, `contains` and the strips: where the needle's bits stand
+-- This set closes goals after `starts_with`, `ends_with`, `contains` and the strips: where the needle's bits stand.
 pub ruleset matched = (lengths, is_prefix-no_longer, prefix-bit, prefix-stripped, prefix-found, is_suffix-no_longer, suffix-bit, suffix-stripped, contained, contains-absent)
 
--- after `cmp`, `<` and their kin: the order is total and agrees with `==`; and equal views feed a hasher the same
+-- This set closes goals about `cmp` and `<`: the order is total and agrees with `==`, and equal views feed a hasher the same bytes.
 pub ruleset ordered = (orders, fed_same)
 
--- sequences that grow: how many bits there are, and that there is memory for them; with which bits one begins; and what one held with
--- zeros around it, through several calls
+-- This set closes goals about a `BitVec` that grows: its length and memory, the bits that it begins with, and what stands around its bits.
 pub ruleset grown = (width_some, length-owned, owned-room, begins-own, begins-more, around-then, around-written, holds-then)
 
--- after `insert`, `remove`, `swap_remove` and `drain` of a sequence: each bit, how many there are, and what undoes what
+-- This set closes goals after `insert`, `remove`, `swap_remove` and `drain` of a `BitVec`: each bit, how many, and what undoes what.
 pub ruleset reindexed = (width_some, length-owned, length-inserted_one, length-removed_one, length-swap_remove, length-remove_range, get-insert_before, get-insert_at, get-insert_behind, get-remove_before, get-remove_behind, get-swap_remove_at, get-swap_remove_other, get-remove_range_before, get-remove_range_behind, remove-insert, insert-remove)
 
--- what std's adapters make of a walk: the items of a run, one after the other, are those that were to come
+-- This set closes goals about std's adapters of a walk: they give the items that were still to come, one after the other.
 pub ruleset walked = (walks)
 
--- the chunks of a view: joined they are its bits, and what is counted in them adds up
+-- This set closes goals about the chunks of a view: joined they are its bits, and what is counted in them adds up.
 pub ruleset joining = (chunks)
 
--- calls that undo one another
+-- This set closes goals that one call undoes another: `reverse` twice, `!` twice, a rotation there and back.
 pub ruleset undone = (lengths, reverse-reverse, flip-undoes, rotated_left-undoes, rotated_right-undoes)
 
--- after `store` and `load`, in either order: the number is that which was stored, the bits are those that were loaded, and
--- in one element both ends give one number; the place of the first bit counts as far as its index in its element does
+-- This set closes goals about a load after a store, and a store after a load; in one element `load_le` and `load_be` agree.
 pub ruleset reloaded = (lengths, loaded_le-phase, loaded_be-phase, width_some, stored_le-loads, stored_be-loads, loaded_le-stores, loaded_be-stores, loaded-one, remainder-narrow)
 
--- lists of one length with one number are one list
+-- This set closes goals that two lists are one: they have one length and one number.
 pub ruleset determined = (lengths, width_some, loaded_le-determines, loaded_be-determines)
 
--- arrays of zeros
+-- This set closes goals about the bits of arrays of zeros: each is 0.
 pub ruleset zeroed = (bits-zeros)
 
--- a `SliceOrder` of a user's own, whose functions call `bits_..` of `engine`
+-- This set closes goals about a `SliceOrder` of your own whose functions call `elements_..` and `bits_..` of `engine`.
 pub ruleset own_order = (enough)
 
--- the bits that a type of a user's own shows: those of its elements, of a range of them, and the first ones
+-- This set closes goals about the bits that a type of your own shows: those of its elements, of a range of them, or the first ones.
 pub ruleset own_views = (bits-all, bits-range, bits-front)
 
--- each bit, and the length, after edits of whole lists and of ranges, on views and in place
+-- This set closes goals about each bit and the length after edits of whole lists and of ranges, of views and in place.
 pub ruleset bitwise = (lengths, kept_lengths, listed, ranged)
 
--- the number of a range: stored there it is what was stored, as far as it fits; beside an edit it stays; and its bound
+-- This set closes goals about the number of a range: it was stored there, lies beside an edit, or is below `2^(to - from)`.
 pub ruleset fields = (lengths, kept_lengths, numbers, number-unchanged, length-stored, width_some)
 
--- what cursors wrote: each number, bit and copied list stands where it was put, all else is as before, and it is what one reads there
+-- This set closes goals about what cursors wrote: each number, bit and list stands where it was put, and all else is as before.
 pub ruleset cursors = (lengths, written_by, width_some)
 
--- a stored number by its bits and parts, from its other end, or moved; and the number of a range that was filled
+-- This set closes goals about a stored number by its bits and parts, from its other end, or moved, and about a filled range's number.
 pub ruleset portions = (lengths, kept_lengths, parts, width_some)
 
--- the number of a range by those of two side by side, by its bits, and of one bit, of zeros and of ones
+-- This set closes goals about the number of a range by those of two side by side, by its bits, and of one bit, zeros or ones.
 pub ruleset summed = (lengths, kept_lengths, number-high_sides, number-low_sides, number-high_stored, number-low_stored, number-none, number-one, number-zeros, number-ones, get-high_number, get-low_number, width_some)
 
--- numbers from the order's own end, `le` under `Lsb0` and `be` under `Msb0`: one family of words for views and arrays
+-- This set closes goals about numbers from the order's own end, `le` under `Lsb0`, `be` under `Msb0`, of views and of arrays.
 pub ruleset seamless = (lengths, kept_lengths, loaded-seamless, stored-seamless, number-seamless, numbered-seamless, length-element_bits, length-slice_range, width_some)
 
--- lists of bits as numbers: the bound, the number of bits that were made of one and the other way, of one bit more and of a front and
--- the bit behind it; and what is left of a list from a place on
+-- This set closes goals about lists of bits as numbers: the bound, from one to the other and back, one bit more, and the rest of a list.
 pub ruleset segmented = (segment_number-below, segment-number, segment-told, segment-push, segment-front, bits_in-rest, range-rest, numbered-put, length-element_bits, width_some)
 
--- the first bits of an array that has room for more: each, how many, and after an edit among them, behind them or at their end
+-- This set closes goals about the first bits of an array with room for more: each, how many, and after an edit among them or behind.
 pub ruleset fronts = (lengths, kept_lengths, length-front, get-front, front-none, front-all, front-shorter, front-longer, front-last, front-range, front-bits, front-number, front-set_inside, front-set_behind, front-set_next, front-written, front-written_inside, front-written_behind, front-filled, front-grown, front-inserted, front-removed, length-inserted, length-removed, get-inserted_behind, get-removed_behind, width_some)
 
--- questions of `in_place` about a range: beside an edit, and after `fill`
+-- This set closes goals about what questions of `in_place` about a range answer after an edit beside it, and after `fill`.
 pub ruleset asked = (lengths, kept_lengths, in_range)
 
--- closures that may always be called, as `fill_with`, `for_each` and splits ask of them
+-- This set closes goals that a closure may be called as `fill_with`, `for_each` and splits call it, where it may always be called.
 pub ruleset callable = (callable_below-always, callable_on_bits-always, may_ask_always)
 
--- the words on edits of ranges in place of writes: for a contract of a view that says `filled`, `flipped` and their kin
+-- This set closes goals where a contract says `filled`, `flipped`, `edited`, `joined` or `numbered`, and an edit of a view says `write_at`.
 pub ruleset worded = (words)

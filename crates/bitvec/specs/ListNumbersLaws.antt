@@ -1,4 +1,4 @@
--- Lists of bits as numbers: of one bit more, of a front and the bit behind it, of what is left of a list; and what a cursor put.
+-- Lists of bits as numbers: of one bit more, of a front and the bit behind it; what is left of a list; and a write at its first place.
 use Rattle.std.specs.Prelude.{◌≡◌, ℕ, ◌+◌, ◌-◌, ◌*◌, ◌<◌, ◌≤◌, if◌then◌else◌, Bool, false, true, List, [], ◌∷◌, ◌++◌, drop, length, refl, slice_index_or, slice_range, take}
 use Rattle.std.proofs.Common.{arith, ◌∙◌, ap}
 use Rattle.std.proofs.lemmas.List.{take_more}
@@ -15,26 +15,26 @@ unfolding segment_number
 one_bit true = refl
 one_bit false = refl
 
--- Where the first bit is the highest: with one bit more it is twice as much and the bit.
+-- With one bit more at its end, a list whose first bit is the highest has twice its number, plus the bit.
 pub segment-push : (list : List Bool) (bit : Bool) → segment_number true (list ++ bit ∷ []) ≡ segment_number true list * 2 + (if bit then 1 else 0)
 segment-push list bit = let one = one_bit bit in append-highest list (bit ∷ []) ∙ ap (λ (n : ℕ). segment_number true list * 2 + n) one
 
--- So it is of a front and the bit behind it.
+-- The first `n + 1` bits, the first the highest, have twice the number of the first `n`, plus the bit at `n`.
 pub segment-front : (list : List Bool) (n : ℕ) → n < length list → segment_number true (take (n + 1) list) ≡ segment_number true (take n list) * 2 + (if slice_index_or list n false then 1 else 0)
 segment-front list n inside = ap (segment_number true) (take_more list n false inside) ∙ segment-push (take n list) (slice_index_or list n false)
 
 -- ---- what is left of a list
 
--- A range up to the end is what is left of the list from its start on.
+-- A range that goes up to the end of a list is what is left of it from the range's start on.
 pub range-rest : {X : Type 0} (list : List X) (from to : ℕ) → length list ≤ to → slice_range list from to ≡ drop from list
 range-rest list from to end = between_to_end list from to end
 
--- A range up to the end is what is left of the list from its start on.
+-- The bits of a range that goes up to the end of a list are what is left of it from the range's start on.
 pub bits_in-rest : (list : List Bool) (from to : ℕ) → length list ≤ to → bits_in list from to ≡ drop from list
 unfolding bits_in
 bits_in-rest list from to end = between_to_end list from to end
 
--- A write at the first place begins with what was written.
+-- A list written at the first place has what was written, and then what stood behind it.
 pub written-first : {X : Type 0} (list new : List X) → write_at list 0 new ≡ new ++ drop (length new) list
 unfolding write_at
 written-first {X} list new = let none : 0 + length new ≡ length new = omega arith in ap (λ (n : ℕ). new ++ drop n list) none

@@ -19,7 +19,7 @@ use Rattle.bitvec_segments.specs.Segments.{bit_number, loaded, segment_bits, seg
 
 -- ---- two ranges side by side
 
--- the first bit the highest
+-- The number of `a..e`, first bit highest, is that of `a..m` times `2^(e - m)`, plus that of `m..e`.
 pub number-high_sides : (b : ℕ) (list : List Bool) (a m e : ℕ) → a ≤ m → m ≤ e → e ≤ length list
     → number_in true true b list a e ≡ number_in true true b list a m * 2 ^ (e - m) + number_in true true b list m e
 unfolding number_in
@@ -34,7 +34,7 @@ number-high_sides b list a m e low high inside =
     ∙ ap (λ (n : ℕ). n * 2 ^ (e - m) + segment_number true right) (sym (loaded-plain true true b a left refl))
     ∙ ap (λ (n : ℕ). loaded true true b a left * 2 ^ (e - m) + n) (sym (loaded-plain true true b m right refl))
 
--- the first bit the lowest
+-- The number of `a..e`, first bit lowest, is that of `m..e` times `2^(m - a)`, plus that of `a..m`.
 pub number-low_sides : (b : ℕ) (list : List Bool) (a m e : ℕ) → a ≤ m → m ≤ e → e ≤ length list
     → number_in false false b list a e ≡ number_in false false b list m e * 2 ^ (m - a) + number_in false false b list a m
 unfolding number_in
@@ -51,7 +51,7 @@ number-low_sides b list a m e low high inside =
 
 -- numbers that were stored side by side are one number
 module _ (b : ℕ) (list : List Bool) (a m e v w : ℕ) (some : 0 < b) (low : a ≤ m) (high : m ≤ e) (inside : e ≤ length list) where
-  -- Two numbers that were stored side by side are such a number.
+  -- Two numbers stored side by side, first bit highest, make the first times `2^(e - m)` plus the second, each as far as it fits.
   pub number-high_stored : number_in true true b (numbered true true b (numbered true true b list a m v) m e w) a e ≡ v % 2 ^ (m - a) * 2 ^ (e - m) + w % 2 ^ (e - m)
   number-high_stored =
       let old : List Bool = numbered true true b list a m v in
@@ -63,7 +63,7 @@ module _ (b : ℕ) (list : List Bool) (a m e v w : ℕ) (some : 0 < b) (low : a 
       let second : number_in true true b new m e ≡ w % 2 ^ (e - m) = number-numbered true true b old m e w some high (omega arith) in
       number-high_sides b new a m e low high (omega arith) ∙ rw (first, second) refl
 
-  -- Two numbers that were stored side by side are such a number.
+  -- Two numbers stored side by side, first bit lowest, make the second times `2^(m - a)` plus the first, each as far as it fits.
   pub number-low_stored : number_in false false b (numbered false false b (numbered false false b list a m v) m e w) a e ≡ w % 2 ^ (e - m) * 2 ^ (m - a) + v % 2 ^ (m - a)
   number-low_stored =
       let old : List Bool = numbered false false b list a m v in
@@ -77,7 +77,7 @@ module _ (b : ℕ) (list : List Bool) (a m e v w : ℕ) (some : 0 < b) (low : a 
 
 -- ---- no bit, and one
 
--- No bit has the number 0.
+-- An empty range has the number 0.
 pub number-none : (big high : Bool) (b : ℕ) (list : List Bool) (a e : ℕ) → a ≡ e → e ≤ length list → number_in big high b list a e ≡ 0
 number-none big high b list a e is inside =
     let below = number-below big high b list a e inside in
@@ -98,7 +98,7 @@ bits-one list k e is inside =
     let long : e - k ≡ 1 = omega arith in
     ap (λ (n : ℕ). take n (drop k list)) long ∙ ap (take 1) (drop-cons list k false (omega arith))
 
--- One bit has 1 or 0, as it is.
+-- A range of one bit has the number 1 or 0, as the bit is.
 pub number-one : (big high : Bool) (b : ℕ) (list : List Bool) (k e : ℕ) → e ≡ k + 1 → 0 < b → e ≤ length list → number_in big high b list k e ≡ (if slice_index_or list k false then 1 else 0)
 number-one big high b list k e is some inside =
     let below = mod_below k b some in
@@ -115,11 +115,11 @@ module _ (big high : Bool) (b : ℕ) (list : List Bool) (a e : ℕ) (some : 0 < 
       (bits-same (filled list a e bit) list a e (sym (length-filled list a e bit order inside)) (omega (arith, length-filled list a e bit order inside))
       (λ k d low below. get_or_default list k d false (omega arith) ∙ each k low below ∙ sym (get-filled_inside list a e bit k d inside low below)))
 
-  -- N zeros have the number 0, and n ones `2^n - 1`.
+  -- A range whose bits are all 0 has the number 0.
   pub number-zeros : ((k : ℕ) → a ≤ k → k < e → slice_index_or list k false ≡ false) → number_in big high b list a e ≡ 0
   number-zeros each = same_filled false each ∙ number-cleared big high b list a e a e some (omega arith) order (omega arith) inside
 
-  -- N zeros have the number 0, and n ones `2^n - 1`.
+  -- A range of `n` bits that are all 1 has the number `2^n - 1`.
   pub number-ones : ((k : ℕ) → a ≤ k → k < e → slice_index_or list k false ≡ true) → number_in big high b list a e ≡ 2 ^ (e - a) - 1
   number-ones each = same_filled true each ∙ number-filled_up big high b list a e a e some (omega arith) order (omega arith) inside
 
@@ -139,12 +139,12 @@ get-told big high b list from to k some joins inside low below =
     ∙ get-element_bits (to - from) (bit_number high) (number_in big high b list from to) (k - from) false (omega arith)
 
 module _ (big : Bool) (b : ℕ) (list : List Bool) (from to k : ℕ) (some : 0 < b) (inside : to ≤ length list) (low : from ≤ k) (below : k < to) where
-  -- The bit of a range's number that stands for a place is the bit at that place.
+  -- Under `Msb0`, bit `to - 1 - k` of the number of `from..to` is the list's bit at `k`, where the number has no seam.
   pub get-high_number : (big ≡ true) ⊎ (from % b + (to - from) ≤ b) → (bit_at (number_in big true b list from to) (to - 1 - k) == 1) ≡ slice_index_or list k false
   get-high_number joins =
       let place : to - from - 1 - (k - from) ≡ to - 1 - k = omega arith in
       sym (get-told big true b list from to k some joins inside low below ∙ ap (λ (p : ℕ). bit_at (number_in big true b list from to) p == 1) place)
 
-  -- The bit of a range's number that stands for a place is the bit at that place.
+  -- Under `Lsb0`, bit `k - from` of the number of `from..to` is the list's bit at `k`, where the number has no seam.
   pub get-low_number : (big ≡ false) ⊎ (from % b + (to - from) ≤ b) → (bit_at (number_in big false b list from to) (k - from) == 1) ≡ slice_index_or list k false
   get-low_number joins = sym (get-told big false b list from to k some joins inside low below)

@@ -17,11 +17,11 @@ use Rattle.bitvec.specs.OwnViews.{shown_all, shown_range}
 module _ {T : Type 0} (b : ℕ) (at : ℕ → ℕ → ℕ) (value : T → ℕ) (elements : List T) where
   -- ---- all bits
 
-  -- All bits of some elements, and those of a range in the elements that these touch, are what a view may show.
+  -- A view may show all bits of some elements, where these are at most `max_bits`.
   pub shows-all : b * length elements ≤ max_bits → ShowsElements b at value (shown_all b at value elements)
   shows-all few = shows_elements b at value elements 0 (b * length elements) (omega arith) few
 
-  -- These are the bits of the memory, those of its range, and its first bits.
+  -- The bits that `shown_all` shows are those of the elements.
   pub bits-all : memory_bits b at (map value elements) ≡ (shown_all b at value elements).bits
   unfolding window_of
   bits-all = let long = length-memory b at value elements in sym (range-all (memory_bits b at (map value elements)) (0 + b * length elements) (omega arith))
@@ -29,14 +29,14 @@ module _ {T : Type 0} (b : ℕ) (at : ℕ → ℕ → ℕ) (value : T → ℕ) (
   -- ---- the bits of a range
 
   module _ (from to : ℕ) (some : 0 < b) (has : HasBits b (length elements) from to) where
-    -- All bits of some elements, and those of a range in the elements that these touch, are what a view may show.
+    -- A view may show the bits of a range in the elements that these touch.
     pub shows-range : ShowsElements b at value (shown_range b at value elements from to)
     shows-range =
         shows_elements b at value (touched_elements b elements from to) (from % b) (to - from)
         (simp zero-add at (touched_holds b elements 0 (b * length elements) from to some (omega arith) has.order has.inside))
         (simp zero-add at (touched_few b elements 0 (b * length elements) from to some (omega arith) has.order has.inside max_bits has.fits))
 
-    -- These are the bits of the memory, those of its range, and its first bits.
+    -- The bits that `shown_range` shows are those of the range `from..to` of the elements' bits.
     pub bits-range : bits_in (memory_bits b at (map value elements)) from to ≡ (shown_range b at value elements from to).bits
     unfolding window_of bits_in
     bits-range =
@@ -47,7 +47,7 @@ module _ {T : Type 0} (b : ℕ) (at : ℕ → ℕ → ℕ) (value : T → ℕ) (
         sym (ap (λ (ys : List ℕ). slice_range (memory_bits b at ys) (from % b) (from % b + (to - from))) (range-map value elements _ _)
         ∙ touched-bits b at xs from to (to - from) some (omega arith) (omega arith))
 
-  -- These are the bits of the memory, those of its range, and its first bits.
+  -- The bits that `shown_range` of `0..n` shows are the first `n` of the elements' bits.
   pub bits-front : (n : ℕ) → 0 < b → HasBits b (length elements) 0 n → front_bits (memory_bits b at (map value elements)) n ≡ (shown_range b at value elements 0 n).bits
   unfolding bits_in
   bits-front n some has = sym (front-range (memory_bits b at (map value elements)) n) ∙ bits-range 0 n some has

@@ -3,10 +3,12 @@ use Rattle.std.specs.Prelude.{ℕ, Bool, List, take}
 use Rattle.std.specs.List.{insert, remove}
 use Rattle.bitvec_base.specs.Window.{write_at}
 
--- `bit` put into the first `len`, before the one at `index`: each from there on stands one place on, the last at `len`
+-- `inserted list len index bit` puts `bit` into the first `len` bits, before the one at `index`: each from there on stands one place on,
+-- the last at `len`.
 unfoldable pub inserted : List Bool → ℕ → ℕ → Bool → List Bool
 inserted list len index bit = write_at list 0 (insert (take len list) index bit)
 
--- the bit at `index` taken out of the first `len`: each behind it stands one place back; the place len - 1 keeps its bit
+-- `removed list len index` takes the bit at `index` out of the first `len`: each behind it stands one place back, and place `len - 1` keeps
+-- its bit.
 unfoldable pub removed : List Bool → ℕ → ℕ → List Bool
 removed list len index = write_at list 0 (remove (take len list) index)

@@ -24,7 +24,7 @@ use Rattle.bitvec_in_place.specs.RangesLaws.{length-numbered}
 
 -- ---- the number of a list, by its bits alone
 
--- ranges with the same bits, at places of one phase, have one number
+-- Two ranges with the same bits have one number, where both begin at the same index in an element.
 pub number-same_bits : (big high : Bool) (b : ℕ) (old new : List Bool) (a e c f : ℕ) → a % b ≡ c % b → bits_in new a e ≡ bits_in old c f → number_in big high b new a e ≡ number_in big high b old c f
 unfolding number_in bits_in
 number-same_bits big high b old new a e c f phase same = loaded-phase big high b a c (slice_range new a e) phase ∙ ap (loaded big high b c) same
@@ -34,14 +34,14 @@ loaded-joined : (big high : Bool) (b s : ℕ) (list : List Bool) → 0 < b → (
 loaded-joined big high b s list some joins =
     ⊎_elim (λ (is : big ≡ high). loaded-plain big high b s list is) (λ (inside : s % b + length list ≤ b). loaded-segment big high b s list some inside) joins
 
--- Where segments join, it is that of one segment.
+-- A range's number is `segment_number` of its bits, where it has no seam (`big` is `high`) or lies in one element.
 pub number-joined_is : (big high : Bool) (b : ℕ) (list : List Bool) (a e : ℕ) → 0 < b → e ≤ length list → (big ≡ high) ⊎ (a % b + (e - a) ≤ b) → number_in big high b list a e ≡ segment_number high (bits_in list a e)
 unfolding number_in bits_in
 number-joined_is big high b list a e some within joins =
     let long = length-slice_range list a e within in
     loaded-joined big high b a (slice_range list a e) some (rw long joins)
 
--- and a store leaves the bits of one
+-- A store leaves the bits of one segment, where the number has no seam (`big` is `high`) or lies in one element.
 pub stored-joined : (big high : Bool) (b s v : ℕ) (list : List Bool) → 0 < b → (big ≡ high) ⊎ (s % b + length list ≤ b) → stored big high b s v list ≡ segment_bits high (length list) v
 stored-joined big high b s v list some joins =
     let new : List Bool = stored big high b s v list in
@@ -69,7 +69,7 @@ all_counts true from to v = let none : to - to ≡ 0 = omega arith in ap (λ (n 
 all_counts false from to v = let none : from - from ≡ 0 = omega arith in ap (λ (n : ℕ). v / 2 ^ n) none ∙ omega arith
 
 module _ (big high : Bool) (b : ℕ) (list : List Bool) (from to v : ℕ) where
-  -- A bit of a stored number, where its segments join without a seam or it lies in one element.
+  -- Where `v` was stored without a seam or in one element, the bit at `k` is the bit of `v` that counts there.
   pub get-numbered_inside : (k : ℕ) (d : Bool) → 0 < b → (big ≡ high) ⊎ (from % b + (to - from) ≤ b) → to ≤ length list → from ≤ k → k < to
       → slice_index_or (numbered big high b list from to v) k d ≡ (v / 2 ^ (if high then to - 1 - k else k - from) % 2 == 1)
   unfolding numbered
@@ -83,7 +83,7 @@ module _ (big high : Bool) (b : ℕ) (list : List Bool) (from to v : ℕ) where
       ∙ get-element_bits (to - from) (bit_number high) v (k - from) d (omega arith)
       ∙ ap (λ (p : ℕ). v / 2 ^ p % 2 == 1) (place_counts high from to k low below)
 
-  -- the number of a part of the range, from the range's end or another
+  -- Where `v` was stored without a seam, a part of the range that has none has the number of those bits of `v`.
   pub number-part : (end : Bool) (a e : ℕ) → 0 < b → (big ≡ high) ⊎ (from % b + (to - from) ≤ b) → (end ≡ high) ⊎ (a % b + (e - a) ≤ b)
       → from ≤ a → a ≤ e → e ≤ to → to ≤ length list
       → number_in end high b (numbered big high b list from to v) a e ≡ v / 2 ^ (if high then to - e else a - from) % 2 ^ (e - a)
@@ -101,7 +101,7 @@ module _ (big high : Bool) (b : ℕ) (list : List Bool) (from to v : ℕ) where
       ∙ sym (get-element_bits (e - a) (bit_number high) w i d (omega arith))))
       ∙ segment-number high (e - a) w
 
-  -- in one element the number is one from both ends
+  -- A number stored in `n` bits of one element is `v` modulo `2^n` from either end.
   pub number-other_end : (end : Bool) → 0 < b → from % b + (to - from) ≤ b → from ≤ to → to ≤ length list → number_in end high b (numbered big high b list from to v) from to ≡ v % 2 ^ (to - from)
   number-other_end end some one order inside =
       number-part end from to some (inr one) (inr one) (omega arith) order (omega arith) inside
@@ -182,25 +182,25 @@ loaded_ones (suc most) big high b s (suc n) some few =
     ∙ ones_side big k (suc n - k) ∙ ap (λ (m : ℕ). 2 ^ m - 1) whole
 
 module _ (big high : Bool) (b : ℕ) (list : List Bool) (from to a e : ℕ) (some : 0 < b) (low : from ≤ a) (order : a ≤ e) (below : e ≤ to) (inside : to ≤ length list) where
-  -- The number of a range that was cleared, and of one that was filled.
+  -- A range within one that was filled with 0 has the number 0.
   pub number-cleared : number_in big high b (filled list from to false) a e ≡ 0
   unfolding number_in bits_in
   number-cleared = ap (loaded big high b a) (bits-in_filled list from to a e false low below inside (omega arith)) ∙ loaded_zeros (e - a) big high b a (e - a) some (omega arith)
 
-  -- The number of a range that was cleared, and of one that was filled.
+  -- A range of `n` bits within one that was filled with 1 has the number `2^n - 1`.
   pub number-filled_up : number_in big high b (filled list from to true) a e ≡ 2 ^ (e - a) - 1
   unfolding number_in bits_in
   number-filled_up = ap (loaded big high b a) (bits-in_filled list from to a e true low below inside (omega arith)) ∙ loaded_ones (e - a) big high b a (e - a) some (omega arith)
 
 -- ---- beside two ranges that were exchanged, and beside one that was combined with another
 
--- A number beside ranges that were exchanged, and beside one that was combined, is as before.
+-- A range beside two ranges that were swapped has the number that it had.
 pub number-swapped : (big high : Bool) (b from to dest : ℕ) (list : List Bool) (a e : ℕ) → from ≤ to → to ≤ length list → dest + (to - from) ≤ length list → e ≤ length list
     → (e ≤ from) ⊎ (to ≤ a) → (e ≤ dest) ⊎ (dest + (to - from) ≤ a) → number_in big high b (swapped_within from to dest list) a e ≡ number_in big high b list a e
 number-swapped big high b from to dest list a e order source room within front back =
     number-same_bits big high b list (swapped_within from to dest list) a e a e refl (bits-swapped list from to a e dest order source room within front back)
 
--- A number beside ranges that were exchanged, and beside one that was combined, is as before.
+-- A range beside the bits that were combined has the number that it had.
 pub number-combined : (big high : Bool) (b : ℕ) (f : Bool → Bool → Bool) (from to dest : ℕ) (list : List Bool) (a e : ℕ) → from ≤ to → dest + (to - from) ≤ length list → e ≤ length list
     → (e ≤ dest) ⊎ (dest + (to - from) ≤ a) → number_in big high b (combined_within f from to dest list) a e ≡ number_in big high b list a e
 number-combined big high b f from to dest list a e order room within apart =
@@ -236,19 +236,19 @@ module _ (big high : Bool) (b : ℕ) (old new : List Bool) (a e from place : ℕ
       whole
 
 module _ (big high : Bool) (b from to dest : ℕ) (list : List Bool) (a e : ℕ) (some : 0 < b) (source : from ≤ to) (inside : to ≤ length list) (room : dest + (to - from) ≤ length list) (order : a ≤ e) where
-  -- with `copied_within` and `swapped_within` to `dest`, and with the latter from there
+  -- A part of a copy has its source's number, where `big` is `high` or copy and source begin at one index in an element.
   pub number-copied_to : dest ≤ a → e ≤ dest + (to - from) → (big ≡ high) ⊎ (from % b ≡ dest % b) → number_in big high b (copied_within from to dest list) a e ≡ number_in big high b list (from + (a - dest)) (from + (e - dest))
   number-copied_to low high_end whole =
       number-moved big high b list (copied_within from to dest list) a e from dest some order low (lasting.length-copied_within from to dest list inside room) (omega arith) (omega arith) whole
       (λ k d above below. get-copied_inside from to dest list k d inside room (omega arith) (omega arith))
 
-  -- A number that was moved by whole elements, or whose segments join without a seam, is the same.
+  -- After a swap, a part at `dest` has its number at `from`, where `big` is `high` or both begin alike in their elements.
   pub number-swapped_to : dest ≤ a → e ≤ dest + (to - from) → (big ≡ high) ⊎ (from % b ≡ dest % b) → number_in big high b (swapped_within from to dest list) a e ≡ number_in big high b list (from + (a - dest)) (from + (e - dest))
   number-swapped_to low high_end whole =
       number-moved big high b list (swapped_within from to dest list) a e from dest some order low (length-swapped from to dest list source inside room) (omega arith) (omega arith) whole
       (λ k d above below. get-swapped_back from to dest list source inside room k d (omega arith) (omega arith))
 
-  -- A number that was moved by whole elements, or whose segments join without a seam, is the same.
+  -- After a swap of ranges apart, a part at `from` has its number at `dest`, where `big` is `high` or both begin alike in elements.
   pub number-swapped_from : LieApart from to dest → from ≤ a → e ≤ to → (big ≡ high) ⊎ (dest % b ≡ from % b) → number_in big high b (swapped_within from to dest list) a e ≡ number_in big high b list (dest + (a - from)) (dest + (e - from))
   number-swapped_from apart low high_end whole =
       number-moved big high b list (swapped_within from to dest list) a e dest from some order low (length-swapped from to dest list source inside room) (omega arith) (omega arith) whole

@@ -3,11 +3,12 @@ use Rattle.std.specs.Prelude.{◌≡◌, ℕ, ◌+◌, ◌%◌, ◌^◌, Bool, L
 use Rattle.std.specs.List.{sum_by}
 use Rattle.bitvec_in_place.specs.Ranges.{number_in}
 
--- how many bits they take
+-- `row_len row` is how many bits the numbers of a row take: the sum of their widths.
 abbrev pub row_len : List (ℕ × ℕ) → ℕ
 row_len row = sum_by (λ (field : ℕ × ℕ). field.0) row
 
--- the first stands from `from` on in as many bits as its width says, as far as it fits, and each other behind the one before it
+-- `HasRow high b list from row` says that each number, as far as it fits, stands in as many bits as its width, one behind the other, from
+-- `from` on.
 abbrev pub HasRow : Bool → ℕ → List Bool → ℕ → List (ℕ × ℕ) → Type 0
 HasRow high b list from [] = Unit {0}
 HasRow high b list from (field ∷ row) = (number_in high high b list from (from + field.0) ≡ field.1 % 2 ^ field.0) × HasRow high b list (from + field.0) row
