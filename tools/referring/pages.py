@@ -104,7 +104,7 @@ def body(model, entry):
         parts += impls(model, entry)
     if entry.kind == "call" and entry.scope.kind in ("struct", "enum"):
         parts += traits(model, entry)
-    parts += [f"Worked: {escaped(it)}" for it in entry.worked] + [f"Checked: `{it}`" for it in entry.checked]
+    parts += [f"Checked: `{it}`" for it in entry.checked]
     if entry.kind == "set":
         parts.append("Laws: " + set_members(model, entry))
     for kind, called in (("call", "Calls"), ("word", "Words"), ("law", "Laws"), ("set", "Sets")):
