@@ -9,6 +9,7 @@ use Rattle.std.proofs.lemmas.List.{length-append}
 use Rattle.bitvec_domain.specs.Asked.{AnswersTo, CallableTo}
 
 module _ {F A : Type 0} (g : Mut F A Bool) (asked : ℕ → A) where
+  -- A call of the closure with what is asked at `i`, as `p`, answered `bit` and left the closure as `q`.
   abbrev R : F → ℕ → Bool → F → Type 0
   R p i bit q = Called g p (asked i) bit q
 

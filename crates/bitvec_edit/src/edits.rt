@@ -4,7 +4,7 @@ ghost use Rattle.std.specs.List.{swap};
 ghost use Rattle.bitvec_base.specs.Lists.{FitsWithin, combined, copied_within, rotated_left, rotated_right, shifted_end, shifted_start};
 ghost use Rattle.bitvec_domain.specs.Asked.{CallableBelow, CallableOnBits, FillsWith, RefillsWith};
 ghost use Rattle.bitvec_words.specs.Operator.{operator};
-ghost use Rattle.bitvec_words.specs.declared.operator.BitOp.TheVariants.{And, Or, Xor};
+ghost use Rattle.bitvec_words.specs.declared.operator.BitOp.TheVariants.{And, AndNot, Or, Xor};
 ghost use Rattle.bitvec_slice.specs.Views.{seen, seen_mut};
 ghost use Rattle.bitvec_slice.specs.Writes.{WritesBits};
 ghost use Rattle.bitvec_within.specs.Combined.{combined_within};
@@ -231,6 +231,17 @@ pub trait BitEdits<T: BitStore, O: SliceOrder>: ViewMut<T, O> {
         self.combine_within(src, dest, BitOp::Xor);
     }
 
+    /// Clears each of the bits from `dest` on, as many as a range has, where the one at its index in the range
+    /// is 1, as they stood before the call, also where the two overlap. Condition: as for
+    /// [`BitEdits::and_within`]. `bitvec` has no such call.
+    #[inline(always)]
+    final fn and_not_within(&mut self, src: Range<usize>, dest: usize)
+        requires { FitsWithin src.start src.end dest (Self.shows self.old).window.len }
+        ensures { Self.writes self.old self.new (combined_within (operator AndNot) src.start src.end dest (Self.shows self.old).bits) }
+    {
+        self.combine_within(src, dest, BitOp::AndNot);
+    }
+
     /// Alias of [`BitEdits::set`], under its condition.
     final fn set_unchecked(&mut self, index: usize, bit: bool)
         requires { index < (Self.shows self.old).window.len }
@@ -333,6 +344,18 @@ pub trait BitEdits<T: BitStore, O: SliceOrder>: ViewMut<T, O> {
         ensures { Self.writes self.old self.new (combined (operator Xor) (Self.shows self.old).bits (seen src.entry).bits) }
     {
         self.combine_bits(src, BitOp::Xor);
+    }
+
+    /// Clears each bit where the one at its index in `src`, which counts as 0 past its end, is 1: the bits of a
+    /// set that are not in another one, `difference_with` of `fixedbitset`. `bitvec` has no such call.
+    ///
+    /// ```
+    /// seats.and_not_bits(taken);
+    /// ```
+    final fn and_not_bits<U: BitStore, P: BitOrder>(&mut self, src: BitSlice<'_, U, P>)
+        ensures { Self.writes self.old self.new (combined (operator AndNot) (Self.shows self.old).bits (seen src.entry).bits) }
+    {
+        self.combine_bits(src, BitOp::AndNot);
     }
 
     /// Exchanges the bits with those of a view of any element type and order. Condition: the views

@@ -6,7 +6,7 @@ ghost use Rattle.bitvec_base.specs.Memory.{memory_bits};
 ghost use Rattle.bitvec_base.specs.Window.{write_at};
 ghost use Rattle.bitvec_slice.specs.Views.{seen};
 ghost use Rattle.bitvec_words.specs.Operator.{operator};
-ghost use Rattle.bitvec_words.specs.declared.operator.BitOp.TheVariants.{And, Or, Xor};
+ghost use Rattle.bitvec_words.specs.declared.operator.BitOp.TheVariants.{And, AndNot, Or, Xor};
 ghost use Rattle.bitvec_in_place.specs.Ranges.{HasBits, joined};
 
 use crate::spans::span_in;
@@ -75,6 +75,20 @@ pub fn xor_bits<T: BitStore, O: SliceOrder, U: BitStore, P: BitOrder>(
     ensures len { length elements.new ≡ length elements.old }
 {
     combine::<T, O, U, P>(elements, range, source, BitOp::Xor);
+}
+
+/// Clears each bit of a range where the one at its index in a view is 1. The view counts as 0 past its end.
+/// Condition: as for [`and_bits`].
+pub fn and_not_bits<T: BitStore, O: SliceOrder, U: BitStore, P: BitOrder>(
+    elements: &mut [T],
+    range: Range<usize>,
+    source: BitSlice<'_, U, P>,
+)
+    requires range { HasBits T.BITS (length elements.old) range.start range.end }
+    ensures bits { memory_bits T.BITS O.at (map T.value elements.new) ≡ joined (operator AndNot) (memory_bits T.BITS O.at (map T.value elements.old)) range.start range.end (seen source.entry).bits }
+    ensures len { length elements.new ≡ length elements.old }
+{
+    combine::<T, O, U, P>(elements, range, source, BitOp::AndNot);
 }
 
 /// Combines each bit of a range with the one at its index in a view, which counts as 0 past its end. Condition: as for

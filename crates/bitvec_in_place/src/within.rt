@@ -5,7 +5,7 @@ ghost use Rattle.std.specs.Prelude.{◌≡◌, length, map};
 ghost use Rattle.bitvec_base.specs.Memory.{memory_bits};
 ghost use Rattle.bitvec_in_place.specs.Rooms.{HasRoom};
 ghost use Rattle.bitvec_words.specs.Operator.{operator};
-ghost use Rattle.bitvec_words.specs.declared.operator.BitOp.TheVariants.{And, Or, Xor};
+ghost use Rattle.bitvec_words.specs.declared.operator.BitOp.TheVariants.{And, AndNot, Or, Xor};
 ghost use Rattle.bitvec_within.specs.Combined.{combined_within};
 
 use crate::spans::whole_in;
@@ -47,4 +47,19 @@ pub fn xor_within<T: BitStore, O: SliceOrder>(elements: &mut [T], src: Range<usi
 {
     let window = whole_in::<T, O>(&*elements);
     combine_within_in::<T, O>(elements, window, src, dest, BitOp::Xor);
+}
+
+/// Clears each of the bits from `dest` on, as many as a range has, where the one at its index in the range is 1, as
+/// both stood before the call. Condition: as for [`and_within`].
+pub fn and_not_within<T: BitStore, O: SliceOrder>(
+    elements: &mut [T],
+    src: Range<usize>,
+    dest: usize,
+)
+    requires room { HasRoom T.BITS (length elements.old) src.start src.end dest }
+    ensures bits { memory_bits T.BITS O.at (map T.value elements.new) ≡ combined_within (operator AndNot) src.start src.end dest (memory_bits T.BITS O.at (map T.value elements.old)) }
+    ensures len { length elements.new ≡ length elements.old }
+{
+    let window = whole_in::<T, O>(&*elements);
+    combine_within_in::<T, O>(elements, window, src, dest, BitOp::AndNot);
 }

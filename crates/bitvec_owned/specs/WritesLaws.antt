@@ -21,7 +21,7 @@ use Rattle.bitvec_owned.specs.Owned.{bit_capacity, owned, usable_bits}
 use Rattle.bitvec_owned.specs.Writes.{WritesOwned}
 use Rattle.bitvec_owned.specs.declared.bit_vec.BitVec.{BitVec}
 
--- Lists whose values have equally many images are as long as each other.
+-- Two lists that are as long after a function was applied to each value are as long before.
 pub same_length : {X Y : Type 0} (f : X → Y) (xs ys : List X) → length (map f xs) ≡ length (map f ys) → length xs ≡ length ys
 same_length f xs ys same = let first = length-map xs f in let second = length-map ys f in omega arith
 
