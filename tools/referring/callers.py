@@ -4,10 +4,12 @@ import re
 from library import BITVEC, RECORDS, TOP
 
 FN = re.compile(r"\s*(?:pub )?fn (\w+)")
-CALLED = re.compile(r"\bin_place::(\w+)|(?<![.\w])([A-Z]\w+)(?:::<[^()]*?>)?::([a-z]\w*)|\.([a-z]\w*)(?:::<[^()]*?>)?\(")
+CALLED = re.compile(r"\bin_place::(\w+)|(?<![.\w])([A-Z]\w+)(?:::<[^()]*?>)?::([a-z]\w*)|(?<!\bbit)(?<!\bnumber)\.([a-z]\w*)(?:::<[^()]*?>)?\(")
 IMPL = re.compile(r"impl(?:<.*?>)? (?:\w+ for )?(\w+)")
-# Std's iterators have these, too.
-STD = {"count"}
+# Methods that iterators, slices and options of std have, too.
+SHARED = {"count", "iter_mut", "or", "resize", "some"}
+# Of a name that several types have, a caller's method is the one of such a trait: a bit and a number have names of their own there.
+TRAITS = {"BitQueries", "BitEdits", "BitField", "BitFieldMut"}
 OTHERS = re.compile(r"\b(bitvec_\w+)(?:::|\.specs)")
 
 
@@ -42,7 +44,7 @@ def functions(text):
 
 
 def by_entry(entries, lines):
-    """The callers of each call. A method whose name two types have goes with none."""
+    """The callers of each call. A method whose name two types have, of which none is such a trait, goes with none."""
     named = {}
     for entry in entries:
         if entry.kind == "call":
@@ -53,6 +55,8 @@ def by_entry(entries, lines):
     found = {}
     for _, shown, called in callers(lines):
         for key in called:
-            if key[1] not in STD and len(named.get(key, ())) == 1 and shown not in found.setdefault(named[key][0], []):
-                found[named[key][0]].append(shown)
+            some = named.get(key, ()) if key[1] not in SHARED else ()
+            some = [it for it in some if it.name.partition("::")[0] in TRAITS] or some
+            if len(some) == 1 and shown not in found.setdefault(some[0], []):
+                found[some[0]].append(shown)
     return found
