@@ -79,6 +79,7 @@ fn recut_run<V: WordOrder, W: WordOrder, T: BitStore, U: BitStore>(
 }
 
 /// [`recut_run`] of whole words of the left memory.
+#[tactic(auto)]
 #[inline(always)]
 fn recut_words<W: WordOrder, V: WordOrder, T: BitStore, U: BitStore>(
     left: &mut [T],
