@@ -107,6 +107,7 @@ pub(crate) fn common_words<T: BitStore, O: BitOrder, U: BitStore, P: BitOrder>(
 }
 
 /// [`common_words`], 64 bits at a time as words of the order `W`.
+#[tactic(auto)]
 fn common_bits_by<W: WordOrder, T: BitStore, O: BitOrder, U: BitStore, P: BitOrder>(
     left: &[T],
     left_window: Window,
