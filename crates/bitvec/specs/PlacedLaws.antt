@@ -243,9 +243,9 @@ ones-have from (false ∷ bits) zero n is = ones-lack n (from + 1) bits (omega a
 ones-have from (true ∷ bits) (suc i) n is = rw (ne_eqb from n (λ same. omega arith)) (ones-have (from + 1) bits i n (omega arith))
 ones-have from (false ∷ bits) (suc i) n is = ones-have (from + 1) bits i n (omega arith)
 
--- A number is among the places of the ones exactly if the bit there is 1.
-pub places-have : (bits : List Bool) (k : ℕ) → list_any (λ place. place == k) (places_of true bits) ≡ slice_index_or bits k false
-places-have bits k = ap (list_any (λ (place : ℕ). place == k)) (ones-are bits) ∙ ones-have 0 bits k k (omega arith)
+-- A bit is 1 exactly if its index is among the places of the ones.
+pub places-have : (bits : List Bool) (k : ℕ) → slice_index_or bits k false ≡ list_any (λ place. place == k) (places_of true bits)
+places-have bits k = sym (ap (list_any (λ (place : ℕ). place == k)) (ones-are bits) ∙ ones-have 0 bits k k (omega arith))
 
 below-none : (n from : ℕ) (bits : List Bool) → n ≤ from → count_by (λ place. nat_lt place n) (ones_from from bits) ≡ 0
 below-none n from [] low = refl
@@ -269,9 +269,9 @@ below-count from (false ∷ bits) (suc i) n is =
     let none : ones_of (take i bits) ≡ 0 + ones_of (take i bits) = omega arith in
     below-count (from + 1) bits i n (omega arith) ∙ none ∙ sym (more false bits i)
 
--- As many places of ones are below `k` as there are ones among the first `k` bits.
-pub places-count : (bits : List Bool) (k : ℕ) → count_by (λ place. nat_lt place k) (places_of true bits) ≡ ones_of (take k bits)
-places-count bits k = ap (count_by (λ (place : ℕ). nat_lt place k)) (ones-are bits) ∙ below-count 0 bits k k (omega arith)
+-- Among the first `k` bits there are as many ones as places of ones are below `k`.
+pub places-count : (bits : List Bool) (k : ℕ) → ones_of (take k bits) ≡ count_by (λ place. nat_lt place k) (places_of true bits)
+places-count bits k = sym (ap (count_by (λ (place : ℕ). nat_lt place k)) (ones-are bits) ∙ below-count 0 bits k k (omega arith))
 
 -- ---- the one that comes k-th
 
@@ -300,6 +300,10 @@ nth-count bits k i is =
     let one = one-at 0 bits k 0 at.0 in
     let place : i ≡ one.i = let is = one.is in let same = at.1 in omega arith in
     ap (λ (n : ℕ). ones_of (take n bits)) place ∙ one.count
+
+-- Below the place that comes `k`-th there are `k` places.
+pub nth-rank : (bits : List Bool) (k i : ℕ) → slice_get (places_of true bits) k ≡ Some i → count_by (λ place. nat_lt place i) (places_of true bits) ≡ k
+nth-rank bits k i is = sym (places-count bits i) ∙ nth-count bits k i is
 
 ones-nth : (from : ℕ) (bits : List Bool) (i : ℕ) → slice_index_or bits i false ≡ true → slice_get (ones_from from bits) (ones_of (take i bits)) ≡ Some (from + i)
 ones-nth from [] i is = absurd cc
