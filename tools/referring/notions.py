@@ -43,7 +43,7 @@ NOTIONS = [
            " bitvec_iter/{lent_bits,lent_calls,lent_halves,lent_next,lent_next_bits,lent_pieces,lent_remainders,lent_texts,BitsLending,HalvesLending"
            ",LentBits,LentPieces,LentWalk,PiecesLending} bitvec_split/{lending,lent_texts,Lent,LentViews,SplitsLending}"
            " bitvec_owned/{Lending,ArrayLending}", "LENDS.md"),
-    Notion("numbers", "Numbers", "Integers in the bits of a view, from either end.", "bitvec_segments bitvec_field bitvec/{NumberSidesLaws,SeamlessLaws}", "NUMBERS.md"),
+    Notion("numbers", "Numbers", "Integers in the bits of a view, from either end.", "bitvec_segments bitvec_field bitvec/{NumberSidesLaws,SeamlessLaws,FlagLaws}", "NUMBERS.md"),
     Notion("arrays", "Arrays in place", "Functions over a slice of elements and a range of its bits, which tell the array afterwards.",
            "bitvec_in_place bitvec/{Arrays,ChangesLaws,FoundLaws}", "ARRAYS.md"),
     Notion("cursors", "Cursors", "Numbers and bits read and written one after the other.", "bitvec_in_place/{reader,writer,cursor_error,Cursors,Rooms} bitvec/ListNumbersLaws", "NUMBERS.md"),
