@@ -415,30 +415,21 @@ class Model:
     # ---- wrong bodies
 
     def add_edits(self):
-        """The wrong bodies: edits and patches, each with its row of docs/WRONG_BODIES.md, or with its own comment."""
-        page = TOP / "docs/WRONG_BODIES.md"
-        rows = re.findall(r"^\| *([^|]+?) *\| *([^|]+?) *\| *([^|]+?) *\|$", page.read_text(), re.M) if page.exists() else []
-        told = {}
-        for what, where, why in rows:
-            for crate, name in re.findall(r"`(\w+)/(\w+)(?:\.patch)?`", where):
-                how = "Shown by" if crate == "mutants" else "Refused by"
-                told[crate, name] = [f"{what}.", f"{how} {why}."]
+        """The wrong bodies: edits and patches, each with its own comment."""
         for kind, pattern in WRONG_BODIES.items():
             for path in sorted(TOP.glob(pattern)):
-                crate = path.parent.parent.name if kind == "edit" else path.parent.name
-                self.add_edit(kind, crate, path, told.get((crate, path.stem), []))
+                self.add_edit(kind, path)
 
-    def add_edit(self, kind, crate, path, told):
-        lines = path.read_text().splitlines()
+    def add_edit(self, kind, path):
+        first, *lines = path.read_text().splitlines()
         if kind == "mutant":
-            own, code = [], [line for line in lines if line.startswith(("+++", "-", "+", "@@")) and not line.startswith("---")]
-            told = told or [f"Shown by `{lines[0]}`."]
-            where = f"`compile_fail/mutants/{path.name}`"
+            text = [line[2:] for line in lines if line.startswith("# ")] + [f"Shown by `{first}`."]
+            code = [line for line in lines if line.startswith(("+++", "-", "+", "@@")) and not line.startswith("---")]
         else:
-            own = [line.lstrip("-# ") for line in lines if line.startswith(("#", "--"))]
-            code = [line for line in lines if not line.startswith(("#", "--"))]
-            where = f"`{path.relative_to(TOP).as_posix()}`"
-        self.add(Entry(kind, path.stem, WRONG, f"{short(crate)}.{path.stem}", code, own or told, None, where))
+            text = [line[2:] for line in (first, *lines) if line.startswith("# ")]
+            code = [line for line in (first, *lines) if not line.startswith("#")]
+        of = path.parent.name if kind == "mutant" else short(path.parent.parent.name if kind == "edit" else path.parent.name)
+        self.add(Entry(kind, path.stem, WRONG, f"{of}.{path.stem}", code, text, None, f"`{path.relative_to(TOP).as_posix()}`"))
 
 
 WRONG_BODIES = {"edit": "crates/*/must-fail/*.edit", "hand": "compile_fail/edits/*/*.edit", "mutant": "compile_fail/mutants/*.patch"}
