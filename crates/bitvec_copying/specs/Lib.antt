@@ -1,1 +1,1 @@
-pub mod ZerosLaws
+pub mod ElementsLaws

@@ -13,7 +13,7 @@ use Rattle.bitvec_base.specs.SliceLaws.{range-rest}
 use Rattle.bitvec_base.specs.Window.{window_of, write_at}
 use Rattle.bitvec_slice.specs.Seen.{shown}
 use Rattle.bitvec_slice.specs.SeenLaws.{length-memory, length_bits}
-use Rattle.bitvec_copying.specs.ZerosLaws.{numbers}
+use Rattle.bitvec_copying.specs.ElementsLaws.{numbers}
 use Rattle.bitvec_owned.specs.Copies.{Holds, KeepsAround}
 use Rattle.bitvec_owned.specs.Fronts.{LeavesFront}
 use Rattle.bitvec_owned.proofs.Rooms.{fewest}

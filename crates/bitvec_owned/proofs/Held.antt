@@ -9,7 +9,7 @@ use Rattle.bitvec_base.specs.Memory.{memory_bits}
 use Rattle.bitvec_base.specs.Window.{window_of, write_at}
 use Rattle.bitvec_base.specs.WriteLaws.{range-write_at, write_at-nil}
 use Rattle.bitvec_slice.specs.Seen.{Seen, shown}
-use Rattle.bitvec_copying.specs.ZerosLaws.{zeros}
+use Rattle.bitvec_copying.specs.ElementsLaws.{zeros}
 use Rattle.bitvec_owned.specs.Copies.{Holds}
 
 module _ {T : Type 0} (b : ℕ) (at : ℕ → ℕ → ℕ) (value : T → ℕ) (some : 0 < b) where
