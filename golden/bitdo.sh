@@ -1,6 +1,6 @@
 #!/usr/bin/env bash
 # The built program `bitdo` under want: a long input, little memory, standard streams that are closed or fail, and words
-# that aren't UTF-8. `bash compile_fail/bitdo.sh [PROGRAM]`: without the path of a built program it is proved and built first.
+# that aren't UTF-8. `bash golden/bitdo.sh [PROGRAM]`: without the path of a built program it is proved and built first.
 set -euo pipefail
 cd "$(dirname "$0")/.."
 if [ $# = 0 ]; then

@@ -1,6 +1,6 @@
 #!/usr/bin/env bash
 # The built program `slots` under want: killed at each of its system calls, and with files, streams and memory that fail.
-# After each, the map is the old one or the new one, whole. `bash compile_fail/slots.sh [PROGRAM]`: without the path of a built
+# After each, the map is the old one or the new one, whole. `bash golden/slots.sh [PROGRAM]`: without the path of a built
 # program it is proved and built first. It needs strace.
 set -euo pipefail
 cd "$(dirname "$0")/.."
