@@ -260,6 +260,7 @@ class Package:
             imports.append(f"use {memory}::Vec;\n")
         if "try_extend(" in written and ".try_extend(" in written:
             imports.append(f"use {memory}::TryExtend;\n")
+        imports += [f"use crate::older::{name};\n" for name in sorted(eraser.newer)]
         written = Package.imported(written, "".join(imports))
         return re.sub(r"\n{3,}", "\n\n", re.sub(r"[ \t]+\n", "\n", written)).strip() + "\n"
 
