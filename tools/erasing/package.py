@@ -219,7 +219,8 @@ class Package:
             return f"pub mod {name} {{\n{docs}\n{rows}}}\n"
         function = self.function(crate, last)
         tested = "tested::" if function and self.is_tested(function) else ""
-        return f"{gate}{hidden}pub use {home}::{tested}{path}{tail};\n"
+        old = "#[allow(deprecated)]\n" if function and function.has_attribute("deprecated") else ""
+        return f"{gate}{hidden}{old}pub use {home}::{tested}{path}{tail};\n"
 
     def lib(self, crate):
         return self.parsed[crate][pathlib.Path("lib.rt")][1]
