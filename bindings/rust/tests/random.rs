@@ -195,7 +195,7 @@ fn windows<T: BitStore + Debug + PartialEq, O: SliceOrder>(seed: u64, number: Nu
     let mut element = |drawn: &mut Drawn| T::from_u128((u128::from(drawn.next()) << 64 | u128::from(drawn.next())) & T::ALL.to_u128());
     for call in 0..CALLS {
         // narrow elements are as many as some words hold
-        let most = (260 / T::BITS as usize).max(4);
+        let most = (130 / T::BITS as usize).max(4);
         let mut elements: Vec<T> = (0..1 + drawn.below(most)).map(|_| element(&mut drawn)).collect();
         let other: Vec<T> = (0..2).map(|_| element(&mut drawn)).collect();
         let (mut bits, other_bits) = (list::<T, O>(&elements), list::<T, O>(&other));
