@@ -80,14 +80,11 @@ impl<'a> Words<'a> {
         }
     }
 
-    /// No argument, for a command without any.
-    pub(crate) fn none(self) -> Option<()>
-        ensures { result ≡ no_argument (words_left self.entry) }
+    /// Whether no word is left.
+    pub(crate) fn is_empty(&self) -> bool
+        ensures { result ≡ no_argument (words_left self.now) }
     {
-        match self.rest {
-            Some(_) => None,
-            None => Some(()),
-        }
+        self.rest.is_none()
     }
 
     /// One number, and no word after it.
@@ -109,7 +106,7 @@ impl<'a> Words<'a> {
         ensures { result ≡ number_and_bit (words_left self.entry) }
     {
         let number = parse_number(self.next()?)?;
-        Some((number, parse_bit(self.last()?)?))
+        Some((number, self.bit()?))
     }
 
     /// Two numbers, and no word after them.
