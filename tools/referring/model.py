@@ -7,7 +7,7 @@ import shutil
 
 import library
 from library import BITVEC, RECORDS, TOP, Refused
-from referring import antt, rust, told
+from referring import antt, rust
 from referring.notions import SETS, STD, WRONG, page_of
 
 # The longest line of a statement; a longer one goes on after an arrow.
@@ -32,7 +32,6 @@ class Entry:
     bound: set = dataclasses.field(default_factory=set)
     targets: set = dataclasses.field(default_factory=set)
     laws: list = dataclasses.field(default_factory=list)
-    worked: list = dataclasses.field(default_factory=list)
     checked: list = dataclasses.field(default_factory=list)
 
     def __hash__(self):
@@ -280,7 +279,7 @@ class Model:
     # ---- words, laws and sets
 
     def add_words(self):
-        self.named, self.told = self.names_in_bitvec(), (told.told_laws(), told.told_words())
+        self.named = self.names_in_bitvec()
         for (crate, file), reader in self.sources.specs.items():
             is_worked = file.endswith("Examples")
             for word in reader.words:
@@ -290,18 +289,6 @@ class Model:
                 entry = Entry(word.kind, word.name, page, f"{short(crate)}.{file}.{word.name}", self.code_of(word), word.comment, word,
                               self.where_of(crate, file, word.name), bound=bound_in(word), laws=word.laws)
                 self.words[crate, file, word.name] = entry
-                self.tell(entry, path_ends(self.named, crate, file))
-
-    def tell(self, entry, files):
-        """Adds what the pages written by hand tell, where the source has no comment, and a worked line."""
-        laws, words = self.told
-        text, worked = "", ""
-        if entry.kind == "law":
-            text = told.of_law(laws, entry.name, files)
-        elif entry.kind == "word":
-            text, worked = told.of_word(words, entry.name, entry.scope.crate)
-        entry.text = entry.text or [text] * bool(text)
-        entry.worked += [worked] * bool(worked)
 
     def names_in_bitvec(self):
         """By which path of `bitvec` a file, or a word of a file, is named: those that its specs/ pass on."""
@@ -428,30 +415,21 @@ class Model:
     # ---- wrong bodies
 
     def add_edits(self):
-        """The wrong bodies: edits and patches, each with its row of docs/WRONG_BODIES.md, or with its own comment."""
-        page = TOP / "docs/WRONG_BODIES.md"
-        rows = re.findall(r"^\| *([^|]+?) *\| *([^|]+?) *\| *([^|]+?) *\|$", page.read_text(), re.M) if page.exists() else []
-        told = {}
-        for what, where, why in rows:
-            for crate, name in re.findall(r"`(\w+)/(\w+)(?:\.patch)?`", where):
-                how = "Shown by" if crate == "mutants" else "Refused by"
-                told[crate, name] = [f"{what}.", f"{how} {why}."]
+        """The wrong bodies: edits and patches, each with its own comment."""
         for kind, pattern in WRONG_BODIES.items():
             for path in sorted(TOP.glob(pattern)):
-                crate = path.parent.parent.name if kind == "edit" else path.parent.name
-                self.add_edit(kind, crate, path, told.get((crate, path.stem), []))
+                self.add_edit(kind, path)
 
-    def add_edit(self, kind, crate, path, told):
-        lines = path.read_text().splitlines()
+    def add_edit(self, kind, path):
+        first, *lines = path.read_text().splitlines()
         if kind == "mutant":
-            own, code = [], [line for line in lines if line.startswith(("+++", "-", "+", "@@")) and not line.startswith("---")]
-            told = told or [f"Shown by `{lines[0]}`."]
-            where = f"`compile_fail/mutants/{path.name}`"
+            text = [line[2:] for line in lines if line.startswith("# ")] + [f"Shown by `{first}`."]
+            code = [line for line in lines if line.startswith(("+++", "-", "+", "@@")) and not line.startswith("---")]
         else:
-            own = [line.lstrip("-# ") for line in lines if line.startswith(("#", "--"))]
-            code = [line for line in lines if not line.startswith(("#", "--"))]
-            where = f"`{path.relative_to(TOP).as_posix()}`"
-        self.add(Entry(kind, path.stem, WRONG, f"{short(crate)}.{path.stem}", code, own or told, None, where))
+            text = [line[2:] for line in (first, *lines) if line.startswith("# ")]
+            code = [line for line in (first, *lines) if not line.startswith("#")]
+        of = path.parent.name if kind == "mutant" else short(path.parent.parent.name if kind == "edit" else path.parent.name)
+        self.add(Entry(kind, path.stem, WRONG, f"{of}.{path.stem}", code, text, None, f"`{path.relative_to(TOP).as_posix()}`"))
 
 
 WRONG_BODIES = {"edit": "crates/*/must-fail/*.edit", "hand": "compile_fail/edits/*/*.edit", "mutant": "compile_fail/mutants/*.patch"}
@@ -469,11 +447,6 @@ def shown_fields(head):
     shown = [line for number, line in enumerate(fields) if line.strip().startswith("pub ") or line.strip().startswith("///")
              and next((it for it in fields[number:] if not it.strip().startswith("///")), "").strip().startswith("pub ")]
     return [head[0], *shown, *["    .."] * (len(shown) < len(fields)), "}"] if shown else [head[0].rstrip(" {") + " { .. }"]
-
-
-def path_ends(named, crate, file):
-    """The names of a file: its own, and those under which `bitvec` passes it on."""
-    return {file} | {to.rpartition(".")[2] for (path, _), to in named.items() if path == f"Rattle.{crate}.specs.{file}"}
 
 
 def broken(line):

@@ -6,18 +6,20 @@ from library import Refused
 
 @dataclasses.dataclass
 class Notion:
-    """A page. A place is a crate, or CRATE/FILE for a file of its src/ or specs/, without its ending; the longest place that fits counts."""
+    """A page. A place is a crate, or CRATE/FILE for a file of its src/ or specs/, without its ending; the longest place that fits counts.
+    The guide is the page of docs/ that a reader learns the notion from."""
 
     name: str
     title: str
     about: str
     places: str
+    guide: str = ""
 
 
 NOTIONS = [
     Notion("elements", "Elements and orders", "The unsigned integers that a memory is made of, and which of their bits comes first.",
            "bitvec_store bitvec_base/{order,hi_lo,lsb0,msb0,ones,Order,OrderLaws,HiLoLaws,MaskLaws} bitvec_words/word_order bitvec_engine/{slice_order,order_direction}"
-           " bitvec_engine/Direction bitvec_segments/field_order"),
+           " bitvec_engine/Direction bitvec_segments/field_order", "VIEWS.md"),
     Notion("memory", "Memories and windows", "The bits of a slice of elements as one list, windows of it, and what a write leaves.", "bitvec_base"),
     Notion("lists", "Words and laws of lists", "What contracts say of lists of bits: counts, places, rotations, shifts, copies, writes of a part.",
            "bitvec_base/{Lists,ListsLaws,Counts,CountLaws,CountedLaws,CompareLaws,CopyLaws,FillLaws,FilledLaws,FoundLaws,LeadingLaws,LengthLaws,NeedleLaws"
@@ -25,28 +27,28 @@ NOTIONS = [
            " bitvec_within/{Combined,CombinedLaws,Swaps,SwapsLaws,Ranges,Candidates} bitvec_words/{Operator,CombinedLaws}"),
     Notion("views", "Views", "A view is a window of borrowed elements in an order: how it is made, cut, compared and shown.",
            "bitvec_slice bitvec_domain/{reference,reference_mut,reference_equality,reference_texts,References,Listing,ListingLaws,Feeding,FeedingLaws}"
-           " bitvec/{OwnViews,OwnViewsLaws,Types}"),
+           " bitvec/{OwnViews,OwnViewsLaws,Types}", "VIEWS.md"),
     Notion("domains", "Domains", "The elements that a view touches, and a view cut at their edges.",
            "bitvec_domain bitvec_slice/{bit_domain,bit_parts,BitParts,Domains,DomainsLaws,Touched,TouchedLaws} bitvec/Domains"),
-    Notion("questions", "Questions", "What a view is asked: counts, places, walks over the ones and zeros.", "bitvec_query"),
+    Notion("questions", "Questions", "What a view is asked: counts, places, walks over the ones and zeros.", "bitvec_query", "VIEWS.md"),
     Notion("edits", "Edits", "What changes the bits of a view, and what stays beside them.",
-           "bitvec_edit bitvec_slice/{Writes,WriteLaws,KeptLaws,transfers,operators,writing} bitvec/ComposedLaws"),
+           "bitvec_edit bitvec_slice/{Writes,WriteLaws,KeptLaws,transfers,operators,writing} bitvec/ComposedLaws", "VIEWS.md"),
     Notion("closures", "Closures", "Edits by closures: of elements, of pieces one after the other, of a split's parts; and what a closure was asked.",
-           "bitvec_closures bitvec_domain/{Asked,AskedLaws,Refill,RefillLaws,Kept,answering,Arity,Steps,Through} bitvec/ClosureLaws"),
+           "bitvec_closures bitvec_domain/{Asked,AskedLaws,Refill,RefillLaws,Kept,answering,Arity,Steps,Through} bitvec/ClosureLaws", "LENDS.md"),
     Notion("walks", "Walks", "Iterators over the bits of a view, and over pieces of it.",
-           "bitvec_iter bitvec_cutting bitvec_slice/{iter,iterating,bit_iters,walk_texts,Walks,WalkLaws,NthLaws}"),
-    Notion("splits", "Splits", "Iterators over the parts of a view between the bits that a predicate picks.", "bitvec_split"),
+           "bitvec_iter bitvec_cutting bitvec_slice/{iter,iterating,bit_iters,walk_texts,Walks,WalkLaws,NthLaws}", "WALKS.md"),
+    Notion("splits", "Splits", "Iterators over the parts of a view between the bits that a predicate picks.", "bitvec_split", "SPLITS.md"),
     Notion("lends", "Lends", "What a lender is after it lent a part, a bit or a piece, and has it back.",
            "bitvec_slice/{lenders,lent,lent_indices,Lending,LentLaws,MayLend} bitvec_domain/{Lender,PartLender}"
            " bitvec_iter/{lent_bits,lent_calls,lent_halves,lent_next,lent_next_bits,lent_pieces,lent_remainders,lent_texts,BitsLending,HalvesLending"
            ",LentBits,LentPieces,LentWalk,PiecesLending} bitvec_split/{lending,lent_texts,Lent,LentViews,SplitsLending}"
-           " bitvec_owned/{Lending,ArrayLending}"),
-    Notion("numbers", "Numbers", "Integers in the bits of a view, from either end.", "bitvec_segments bitvec_field bitvec/{NumberSidesLaws,SeamlessLaws}"),
+           " bitvec_owned/{Lending,ArrayLending}", "LENDS.md"),
+    Notion("numbers", "Numbers", "Integers in the bits of a view, from either end.", "bitvec_segments bitvec_field bitvec/{NumberSidesLaws,SeamlessLaws,FlagLaws}", "NUMBERS.md"),
     Notion("arrays", "Arrays in place", "Functions over a slice of elements and a range of its bits, which tell the array afterwards.",
-           "bitvec_in_place bitvec/{Arrays,ChangesLaws,FoundLaws}"),
-    Notion("cursors", "Cursors", "Numbers and bits read and written one after the other.", "bitvec_in_place/{reader,writer,cursor_error,Cursors,Rooms} bitvec/ListNumbersLaws"),
-    Notion("sequences", "Sequences", "Owned bits: sequences that grow, and arrays of bits.", "bitvec_owned"),
-    Notion("runs", "Runs", "Lists of commands, run through a window of a memory or through two halves of a view.", "bitvec_run bitvec_run_halves"),
+           "bitvec_in_place bitvec/{Arrays,ChangesLaws,FoundLaws}", "ARRAYS.md"),
+    Notion("cursors", "Cursors", "Numbers and bits read and written one after the other.", "bitvec_in_place/{reader,writer,cursor_error,Cursors,Rooms} bitvec/ListNumbersLaws", "NUMBERS.md"),
+    Notion("sequences", "Sequences", "Owned bits: sequences that grow, and arrays of bits.", "bitvec_owned", "SEQUENCES.md"),
+    Notion("runs", "Runs", "Lists of commands, run through a window of a memory or through two halves of a view.", "bitvec_run bitvec_run_halves", "RUNS.md"),
     Notion("records", "Records", "Records packed into bits.", "bitrecord"),
     Notion("access", "Counted access and costs", "Access to the elements of a memory that counts loads and stores, and what an operation may take.",
            "bitvec_cells bitvec_engine/{WordSteps,WordStepsLaws}"),
@@ -54,7 +56,7 @@ NOTIONS = [
            "bitvec_words bitvec_move bitvec_combine bitvec_engine"),
     Notion("slices", "Operations on slices", "The operations on windows of slices of elements, which views call.", "bitvec_elements bitvec_within"),
 ]
-SETS = Notion("sets", "Sets of laws", "What a function names by `using`: `#[tactic(auto, using(bitvec::specs::Laws::found))]`.", "")
+SETS = Notion("sets", "Sets of laws", "What a function names by `using`: `#[tactic(auto, using(bitvec::specs::Laws::found))]`.", "", "PROOFS.md")
 WRONG = Notion("wrong-bodies", "Wrong bodies", "Faults put into bodies that still compile, and what refuses each.", "")
 STD = Notion("std", "Words of std", "The words of Rattle's standard library that contracts here name, as the kit defines them.", "")
 NAMES = Notion("names", "Names", "Every name of the reference.", "")

@@ -3,7 +3,7 @@ import html
 import re
 
 import library
-from referring import rust
+from referring import callers, rust
 from referring.model import GHOST, NAME
 from referring.notions import NAMES, NOTIONS, SETS, STD, WRONG
 
@@ -17,8 +17,8 @@ WRONG_SECTIONS = {
 }
 LINK = re.compile(r"\[`([^`\]]+)`\](?!\()")
 TOKEN = re.compile(f"{NAME.pattern}|{GHOST.pattern}")
-# How many names a list has before it is folded.
-FEW = 24
+# How many names a list has before it is folded, and how many callers a call shows.
+FEW, CALLERS = 24, 3
 
 
 def code(model, entry):
@@ -104,7 +104,9 @@ def body(model, entry):
         parts += impls(model, entry)
     if entry.kind == "call" and entry.scope.kind in ("struct", "enum"):
         parts += traits(model, entry)
-    parts += [f"Worked: {escaped(it)}" for it in entry.worked] + [f"Checked: `{it}`" for it in entry.checked]
+    parts += [f"Checked: `{it}`" for it in entry.checked]
+    if entry in model.callers:
+        parts.append(f"Proved callers: {', '.join(model.callers[entry][:CALLERS])}.")
     if entry.kind == "set":
         parts.append("Laws: " + set_members(model, entry))
     for kind, called in (("call", "Calls"), ("word", "Words"), ("law", "Laws"), ("set", "Sets")):
@@ -149,7 +151,13 @@ def set_members(model, entry):
 
 
 def head(notion):
-    return f"# {notion.title}\n\n{MADE}\n{notion.about}\n"
+    guide = f" [{title_of(notion.guide)}](../{notion.guide}) is a page to learn it from." if notion.guide else ""
+    return f"# {notion.title}\n\n{MADE}\n{notion.about}{guide}\n"
+
+
+def title_of(page):
+    """The title of a page that a person writes."""
+    return (library.TOP / "docs" / page).read_text().partition("\n")[0].removeprefix("# ")
 
 
 def page(model, notion, entries):
@@ -215,6 +223,7 @@ def counted(number, title):
 def pages(model):
     """The text of each page, by its file."""
     model.shown_entries = set(model.entries)
+    model.callers = callers.by_entry(model.entries, model.sources.lines)
     model.users = {}
     for entry in model.entries:
         for target in entry.targets:

@@ -17,6 +17,7 @@ use Rattle.bitvec_field.specs.IntegersLaws.{remainder-narrow}
 use Rattle.bitvec_in_place.specs.FrontLaws.{front-all, front-bits, front-filled, front-grown, front-inserted, front-last, front-longer, front-none, front-number, front-range, front-removed, front-set_behind, front-set_inside, front-set_next, front-shorter, front-written, front-written_behind, front-written_inside, get-front, get-inserted_behind, get-removed_behind, length-front, length-inserted, length-removed, range-set_after, range-set_before, range-set_inside}
 use Rattle.bitvec_in_place.specs.Laws.{asked as in_range, changed, lengths as kept_lengths, listed, numbers, parts, put as written_by, ranged}
 use Rattle.bitvec_in_place.specs.MovedLaws.{length-bits_of}
+use Rattle.bitvec_in_place.specs.RangeBitsLaws.{bits_in-range}
 use Rattle.bitvec_in_place.specs.RangesLaws.{worded as words}
 use Rattle.bitvec_iter.specs.JoinLaws.{joining as chunks}
 use Rattle.bitvec_iter.specs.Laws.{walked as walks}
@@ -32,7 +33,9 @@ use Rattle.bitvec_in_place.specs.ChangesLaws.{changes-none, changes-then, number
 use Rattle.bitvec.specs.FoundLaws.{all_in-false, all_in-none, all_in-true, any_in-false, any_in-true, first_in-absent, first_in-before, first_in-below, first_in-bit, last_in-absent, last_in-after, last_in-below, last_in-bit, number-at_one, number-before_one, number-without_one}
 use Rattle.bitvec.specs.NumberSidesLaws.{get-high_number, get-low_number, number-high_sides, number-high_stored, number-low_sides, number-low_stored, number-none, number-one, number-ones, number-zeros}
 use Rattle.bitvec.specs.OwnViewsLaws.{bits-all, bits-front, bits-range}
-use Rattle.bitvec.specs.ListNumbersLaws.{bits_in-rest, range-rest, segment-front, segment-push}
+use Rattle.bitvec.specs.ListNumbersLaws.{bits_in-rest, bits_in-set, range-rest, segment-front, segment-push}
+use Rattle.bitvec.specs.FlagLaws.{flag-back, flag-below, flag-fits, flag-same, flag-told}
+use Rattle.bitvec.specs.PlacedLaws.{length-places, length-zero_places, nth-below, nth-bit, nth-count, nth-place, nth-rank, places-and, places-and_not, places-append, places-ascend, places-below, places-bit, places-cleared, places-cons, places-count, places-flipped, places-have, places-nil, places-none, places-ones, places-or, places-ordered, places-set, places-xor, places-zeros}
 use Rattle.bitvec.specs.SeamlessLaws.{loaded-seamless, number-seamless, numbered-put, numbered-seamless, stored-seamless}
 use Rattle.bitvec_segments.specs.NumberLaws.{segment-number, segment-told, segment_number-below}
 use Rattle.bitvec.specs.ClosureLaws.{callable_below-always, callable_on_bits-always}
@@ -52,6 +55,13 @@ pub ruleset sized = (lengths, length-memory_bits, length-bits_of)
 -- This set closes goals after `first_one`, `last_zero` and the like: the place and what stands around it; in place also numbers there,
 -- `all` and `any`.
 pub ruleset found = (lengths, first_place-below, first_place-bit, first_place-before, first_place-absent, last_place-below, last_place-bit, last_place-after, last_place-absent, first_in-below, first_in-bit, first_in-before, first_in-absent, last_in-below, last_in-bit, last_in-after, last_in-absent, number-before_one, number-at_one, number-without_one, all_in-true, all_in-none, all_in-false, any_in-true, any_in-false)
+
+-- This set closes goals about the places of the ones (`places_of`): below the length, ascending, each a 1, how many, which one comes
+-- `k`-th, and the places after a `set` and in two lists combined.
+pub ruleset placed = (lengths, places-below, places-bit, places-ordered, places-ascend, length-places, length-zero_places, places-none, places-have, places-count, nth-below, nth-bit, nth-count, nth-rank, nth-place, places-nil, places-cons, places-append, places-flipped, places-zeros, places-ones, places-set, places-cleared, places-and, places-and_not, places-or, places-xor)
+
+-- This set closes goals about a truth value as a number: a number below 2 is one, and back.
+pub ruleset flags = (flag-below, flag-fits, flag-back, flag-told, flag-same)
 
 -- This set closes goals after a `set`: what `get` and `bits[i]` read at the index and at others.
 pub ruleset written = (lengths, get_or-set_at, get_or-set_other, length-set)
@@ -119,11 +129,11 @@ pub ruleset own_views = (bits-all, bits-range, bits-front)
 -- This set closes goals about each bit and the length after edits of whole lists and of ranges, of views and in place.
 pub ruleset bitwise = (lengths, kept_lengths, listed, ranged)
 
--- This set closes goals about the number of a range: it was stored there, lies beside an edit, or is below `2^(to - from)`.
-pub ruleset fields = (lengths, kept_lengths, numbers, number-unchanged, length-stored, width_some)
+-- This set closes goals about the number of a range: it was stored there, lies beside an edit, or is below `2^(to - from)`; and flags.
+pub ruleset fields = (lengths, kept_lengths, numbers, number-unchanged, length-stored, width_some, flags)
 
--- This set closes goals about what cursors wrote: each number, bit and list stands where it was put, and all else is as before.
-pub ruleset cursors = (lengths, written_by, width_some)
+-- This set closes goals about what cursors wrote: each number, bit and list stands where it was put, and all else is as before; and flags.
+pub ruleset cursors = (lengths, written_by, width_some, flags)
 
 -- This set closes goals about a stored number by its bits and parts, from its other end, or moved, and about a filled range's number.
 pub ruleset portions = (lengths, kept_lengths, parts, width_some)
@@ -140,11 +150,12 @@ pub ruleset segmented = (segment_number-below, segment-number, segment-told, seg
 -- This set closes goals about the first bits of an array with room for more: each, how many, and after an edit among them or behind.
 pub ruleset fronts = (lengths, kept_lengths, length-front, get-front, front-none, front-all, front-shorter, front-longer, front-last, front-range, front-bits, front-number, front-set_inside, front-set_behind, front-set_next, front-written, front-written_inside, front-written_behind, front-filled, front-grown, front-inserted, front-removed, length-inserted, length-removed, get-inserted_behind, get-removed_behind, width_some)
 
--- This set closes goals about what questions of `in_place` about a range answer after an edit beside it, and after `fill`.
-pub ruleset asked = (lengths, kept_lengths, in_range)
+-- This set closes goals about what questions of `in_place` about a range answer after an edit beside it, a `set` in it, and `fill`.
+pub ruleset asked = (lengths, kept_lengths, in_range, bits_in-set)
 
 -- This set closes goals that a closure may be called as `fill_with`, `for_each` and splits call it, where it may always be called.
 pub ruleset callable = (callable_below-always, callable_on_bits-always, may_ask_always)
 
--- This set closes goals where a contract says `filled`, `flipped`, `edited`, `joined` or `numbered`, and an edit of a view says `write_at`.
-pub ruleset worded = (words)
+-- This set closes goals where a contract says `filled`, `flipped`, `edited`, `joined` or `numbered`, and an edit of a view says `write_at`;
+-- and where one says `bits_in`, and the other `slice_range`.
+pub ruleset worded = (words, bits_in-range)

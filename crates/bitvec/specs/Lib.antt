@@ -2,6 +2,7 @@ pub mod Arrays
 pub mod ClosureLaws
 pub mod ComposedLaws
 pub mod Domains
+pub mod FlagLaws
 pub mod FoundLaws
 pub mod Laws
 pub mod ListNumbersLaws
@@ -11,6 +12,7 @@ pub mod NumberSidesLaws
 pub mod Operators
 pub mod OwnViews
 pub mod OwnViewsLaws
+pub mod PlacedLaws
 pub mod SeamlessLaws
 pub mod Types
 pub use Rattle.bitvec_base.specs.BitsFixMemory

@@ -1,11 +1,13 @@
--- Lists of bits as numbers: of one bit more, of a front and the bit behind it; what is left of a list; and a write at its first place.
-use Rattle.std.specs.Prelude.{◌≡◌, ℕ, ◌+◌, ◌-◌, ◌*◌, ◌<◌, ◌≤◌, if◌then◌else◌, Bool, false, true, List, [], ◌∷◌, ◌++◌, drop, length, refl, slice_index_or, slice_range, take}
+-- Lists of bits as numbers: of one bit more, of a front and the bit behind it; what is left of a list; a write at its first
+-- place; and a bit set in a range.
+use Rattle.std.specs.Prelude.{◌≡◌, ℕ, ◌+◌, ◌-◌, ◌*◌, ◌<◌, ◌≤◌, if◌then◌else◌, Bool, false, true, List, [], ◌∷◌, ◌++◌, drop, length, refl, slice_index_or, slice_range, slice_set, take}
 use Rattle.std.proofs.Common.{arith, ◌∙◌, ap}
 use Rattle.std.proofs.lemmas.List.{take_more}
 use Rattle.std.proofs.lemmas.Slice.{between_to_end}
 use Rattle.bitvec_base.specs.Window.{write_at}
 use Rattle.bitvec_segments.specs.PlainLaws.{append-highest}
 use Rattle.bitvec_segments.specs.Segments.{segment_number}
+use Rattle.bitvec_in_place.specs.FrontLaws.{range-set_inside}
 use Rattle.bitvec_in_place.specs.Ranges.{bits_in}
 
 -- ---- the first bit the highest
@@ -38,3 +40,8 @@ bits_in-rest list from to end = between_to_end list from to end
 pub written-first : {X : Type 0} (list new : List X) → write_at list 0 new ≡ new ++ drop (length new) list
 unfolding write_at
 written-first {X} list new = let none : 0 + length new ≡ length new = omega arith in ap (λ (n : ℕ). new ++ drop n list) none
+
+-- A bit set in a range of a list is set in the range's bits, at its index there.
+pub bits_in-set : (list : List Bool) (i : ℕ) (bit : Bool) (from to : ℕ) → to ≤ length list → from ≤ i → i < to → bits_in (slice_set list i bit) from to ≡ slice_set (bits_in list from to) (i - from) bit
+unfolding bits_in
+bits_in-set list i bit from to inside low high = range-set_inside list i bit from to inside low high

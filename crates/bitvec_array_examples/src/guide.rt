@@ -1,4 +1,4 @@
-//! The functions that docs/GUIDE.md builds, and what they answer.
+//! The functions that docs/GUIDE.md builds, others over the same seats, and what they answer.
 ghost use Rattle.std.specs.Prelude.{◌≡◌, ◌+◌, ◌-◌, ◌%◌, ◌<◌, ◌≤◌, IfNone, IfOk, IfSome, count_by, false, map, pos, replicate, slice_range, slice_set, true};
 ghost use Rattle.bitvec.specs.Copies.{Holds, copy_start};
 ghost use Rattle.bitvec.specs.Cutting.{chunk, chunk_count};

@@ -1,5 +1,5 @@
-//! Callers of `bitvec` with arrays, copies and runs: the functions of docs/GUIDE.md, and blocks of docs/CALLING.md that name
-//! no other crate, with what their callers know.
+//! Callers of `bitvec` with arrays, copies and runs, and what they know: the functions of docs/GUIDE.md, and blocks of the
+//! pages in docs/.
 #![tactic(auto)]
 
 #[cfg(test)]

@@ -59,6 +59,7 @@ fn combine_run<W: WordOrder + SliceOrder, T: BitStore, U: BitStore, P: BitOrder>
 }
 
 /// [`combine_run`] by blocks of `HELD` elements. Conditions: as for [`combine_in`], and `HELD` is from 1 to 8192.
+#[tactic(auto)]
 fn combine_blocks<
     W: WordOrder + SliceOrder,
     T: BitStore,

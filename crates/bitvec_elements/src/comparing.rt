@@ -161,6 +161,7 @@ fn compare_at<T: BitStore, O: BitOrder, U: BitStore, P: BitOrder>(
 /// How the bits of two windows of elements of the same type and order compare, in the order of lists
 /// of truth values. The order's own comparison passes equal stretches; from the first stretch that
 /// differs it goes by words. Condition: as for [`eq_in`].
+#[tactic(auto)]
 pub fn compare_block_in<T: BitStore, O: SliceOrder>(
     left: &[T],
     left_window: Window,

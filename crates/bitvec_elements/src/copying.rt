@@ -43,6 +43,7 @@ pub fn copy_from_in<T: BitStore, O: BitOrder, U: BitStore, P: BitOrder>(
 
 /// [`copy_from_in`] under an order that runs from one end of an element to the other, up to 64 bits
 /// at a time as a word.
+#[tactic(auto)]
 pub(crate) fn copy_words<W: WordOrder, T: BitStore, U: BitStore, P: BitOrder>(
     left: &mut [T],
     to: Window,
@@ -87,6 +88,7 @@ pub fn copy_from_block_in<T: BitStore, O: SliceOrder>(
 
 /// [`copy_from_block_in`] with no test for few bits: prefer it where the length is not a compile-time
 /// constant. Whole elements are copied at once. Condition: as for [`copy_from_in`].
+#[tactic(auto)]
 #[inline(always)]
 pub fn copy_from_long_block_in<T: BitStore, O: SliceOrder>(
     left: &mut [T],
@@ -111,6 +113,7 @@ pub fn copy_from_long_block_in<T: BitStore, O: SliceOrder>(
 
 /// Copies a window. Many bits that begin at the same index of an element are copied as whole elements at once,
 /// all others by the order's block function. Condition: as for [`copy_from_in`].
+#[tactic(auto)]
 fn copy_parted_in<T: BitStore, O: SliceOrder>(left: &mut [T], to: Window, right: &[T], from: Window)
     requires { HasSpan T.BITS (map T.value left.old) (map T.value right.now) to from }
     ensures { Copies T.BITS O.at (map T.value left.old) (map T.value left.new) to (map T.value right.now) from }

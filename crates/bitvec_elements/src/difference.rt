@@ -54,6 +54,7 @@ fn common_run<W: WordOrder + SliceOrder, T: BitStore, U: BitStore, P: BitOrder>(
 
 /// [`common_run`] by blocks of `HELD` elements, and at first of fewer bits, since views often differ early.
 /// From a block that differs it goes by words. Condition: `HELD` is from 1 to 8192.
+#[tactic(auto)]
 fn common_blocks<
     W: WordOrder + SliceOrder,
     T: BitStore,
@@ -106,6 +107,7 @@ pub(crate) fn common_words<T: BitStore, O: BitOrder, U: BitStore, P: BitOrder>(
 }
 
 /// [`common_words`], 64 bits at a time as words of the order `W`.
+#[tactic(auto)]
 fn common_bits_by<W: WordOrder, T: BitStore, O: BitOrder, U: BitStore, P: BitOrder>(
     left: &[T],
     left_window: Window,

@@ -14,6 +14,7 @@ use bitvec_words::{WORD_BITS, WordOrder, store_elements};
 
 /// Copies a window's bits to a block, and gives the window of the block that has them. Conditions: the window
 /// lies in a memory of at most `MAX_BITS` bits, and the block has at most 8192 elements and room for the bits.
+#[tactic(auto)]
 #[inline(always)]
 pub(crate) fn hold<W: WordOrder, P: BitOrder, T: BitStore, U: BitStore>(
     block: &mut [T],
@@ -57,6 +58,7 @@ pub(crate) fn recut<W: WordOrder, P: BitOrder, T: BitStore, U: BitStore>(
 
 /// [`recut`] where both orders run from one end of an element to the other. Conditions: as for [`recut`]; no element
 /// is wider than a word, and the windows have as many bits.
+#[tactic(auto)]
 fn recut_run<V: WordOrder, W: WordOrder, T: BitStore, U: BitStore>(
     left: &mut [T],
     to: Window,
@@ -79,6 +81,7 @@ fn recut_run<V: WordOrder, W: WordOrder, T: BitStore, U: BitStore>(
 }
 
 /// [`recut_run`] of whole words of the left memory.
+#[tactic(auto)]
 #[inline(always)]
 fn recut_words<W: WordOrder, V: WordOrder, T: BitStore, U: BitStore>(
     left: &mut [T],

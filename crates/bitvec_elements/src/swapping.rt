@@ -53,6 +53,7 @@ fn swap_run<W: WordOrder + SliceOrder, T: BitStore, U: BitStore, P: BitOrder>(
 }
 
 /// [`swap_run`] by blocks of `HELD` elements. Conditions: as for [`swap_with_in`], and `HELD` is from 1 to 8192.
+#[tactic(auto)]
 fn swap_blocks<W: WordOrder + SliceOrder, T: BitStore, U: BitStore, P: BitOrder, const HELD: usize>(
     left: &mut [T],
     left_window: Window,

@@ -1,5 +1,5 @@
-//! Callers of `bitvec` with pieces, walks, splits and closures, and with a sequence that grows: blocks of docs/CALLING.md
-//! that name no other crate, with what their callers know.
+//! Callers of `bitvec` with pieces, walks, splits and closures, and with a sequence that grows, and what they know: blocks of
+//! the pages in docs/.
 #![tactic(auto)]
 
 #[cfg(test)]

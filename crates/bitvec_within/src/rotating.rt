@@ -80,6 +80,7 @@ fn rotate_many<T: BitStore, O: SliceOrder>(elements: &mut [T], window: Window, b
 
 /// Rotates the bits of a window so that the bit at `by` comes first, with up to `HELD` elements held
 /// aside. Conditions: as for [`rotate_left_in`], and `HELD` is at most 128.
+#[tactic(auto)]
 fn rotate_aside<T: BitStore, O: SliceOrder, const HELD: usize>(
     elements: &mut [T],
     window: Window,
@@ -101,6 +102,7 @@ fn rotate_aside<T: BitStore, O: SliceOrder, const HELD: usize>(
 /// The shorter of the two sides is exchanged with as many bits of the other, which are then in
 /// their place, until the shorter one can be held aside. It is not inlined: its loops
 /// are slower among those of a caller.
+#[tactic(auto)]
 #[inline(never)]
 fn rotate_blocks<T: BitStore, O: SliceOrder>(
     elements: &mut [T],
@@ -135,6 +137,7 @@ fn rotate_blocks<T: BitStore, O: SliceOrder>(
 
 /// Rotates the bits of a window so that the bit at `by` comes first, with those before it held
 /// aside. Conditions: as for [`rotate_blocks`], and the memory beside holds these bits.
+#[tactic(auto)]
 fn rotate_front<T: BitStore, O: SliceOrder>(
     elements: &mut [T],
     window: Window,
@@ -159,6 +162,7 @@ fn rotate_front<T: BitStore, O: SliceOrder>(
 
 /// Rotates the bits of a window so that the bit at `by` comes first, with those from it on held
 /// aside. Conditions: as for [`rotate_front`], of these bits.
+#[tactic(auto)]
 fn rotate_back<T: BitStore, O: SliceOrder>(
     elements: &mut [T],
     window: Window,

@@ -8,6 +8,12 @@ use Rattle.bitvec_within.specs.Swaps.{swapped_within}
 use Rattle.bitvec_within.proofs.Edges.{cut-inside, cut-place, sides-swapped}
 use Rattle.bitvec_within.proofs.swapping_within.swap_sides.Goals as goal
 
+pub swap_with_block_in-requires-clause-window : goal.swap_with_block_in-requires-clause-window
+swap_with_block_in-requires-clause-window g c = (cut-inside _ _ g.T.BitStore.value c.args.elements.now c.split_at_mut-front.result.0.now c.split_at_mut-front.result.1.now c.args.window _ c.args.first c.args.second c.args.len c.BITS-bits.ensures c.requires.window c.split_at_mut-front.ensures.value c.split_at_mut-front.ensures.front_len c.range-near.ensures c.requires.edge c.requires.bound).0
+
+pub swap_with_block_in-requires-clause-right_window : goal.swap_with_block_in-requires-clause-right_window
+swap_with_block_in-requires-clause-right_window g c = (cut-inside _ _ g.T.BitStore.value c.args.elements.now c.split_at_mut-front.result.0.now c.split_at_mut-front.result.1.now c.args.window _ c.args.first c.args.second c.args.len c.BITS-bits.ensures c.requires.window c.split_at_mut-front.ensures.value c.split_at_mut-front.ensures.front_len c.range-near.ensures c.requires.edge c.requires.bound).1
+
 pub returns : goal.returns
 returns g c =
     let b = g.T.BitStore.BITS in
