@@ -165,6 +165,10 @@ FB_DECLARE_PLAIN(or, FB_EDITED_BESIDE)
  * At most ceil(n / 64) word steps. */
 FB_DECLARE_PLAIN(xor, FB_EDITED_BESIDE)
 
+/* Makes each bit `bit & ~right bit`; bits past the end of the right window count as 0, and further right bits as none.
+ * At most ceil(n / 64) word steps. */
+FB_DECLARE_PLAIN(and_not, FB_EDITED_BESIDE)
+
 /* Exchanges the bits of the two windows, as many as n; both memories are written.
  * FB_LENGTH. At most ceil(n / 64) word steps. */
 FB_DECLARE_PLAIN(swap, FB_BOTH_EDITED)

@@ -80,6 +80,7 @@ struct Functions;
         static constexpr auto and_with = fb_##type##_and;                                                              \
         static constexpr auto or_with = fb_##type##_or;                                                                \
         static constexpr auto xor_with = fb_##type##_xor;                                                              \
+        static constexpr auto and_not_with = fb_##type##_and_not;                                                      \
         static constexpr auto swap = fb_##type##_swap;                                                                 \
         static constexpr auto fill_step = fb_##type##_fill_step;                                                       \
         static constexpr auto copy_step = fb_##type##_copy_step;                                                       \
@@ -471,6 +472,10 @@ class Bits : public Operators<std::remove_const_t<Element>, Order> {
     const Bits &operator&=(Right right) const { return edit_by(Call::and_with, right); }
     const Bits &operator|=(Right right) const { return edit_by(Call::or_with, right); }
     const Bits &operator^=(Right right) const { return edit_by(Call::xor_with, right); }
+
+    // Clears each bit where the right one at its index is 1.
+    const Bits &and_not(Right right) const { return edit_by(Call::and_not_with, right); }
+
     const Bits &operator<<=(std::size_t by) const { return edit(Call::shift_start, std::min(by, len)); }
     const Bits &operator>>=(std::size_t by) const { return edit(Call::shift_end, std::min(by, len)); }
 

@@ -238,6 +238,9 @@ class Checks {
         edit(
             "&=", FB_DONE, [&](View view) { view &= right.view(); },
             [&](List &) { combine(other, [](bool a, bool b) { return a && b; }); });
+        edit(
+            "and_not", FB_DONE, [&](View view) { view.and_not(right.view()); },
+            [&](List &) { combine(other, [](bool a, bool b) { return a && !b; }); });
         expect(right.memory == before, "the right memory");
         Place swapped = right;
         if (wanted == FB_DONE)

@@ -155,6 +155,9 @@ void operators() {
     memory.check("00000000000001", "^=");
     (memory.view |= right) &= ~right;
     memory.check("00000000000001", "|=, &= and ~");
+    Memory cleared;
+    cleared.view.and_not(right.part(0, 3));
+    cleared.check("00001000101100", "and_not");
     const fehimbary::OwnBits<uint8_t> opposite = ~memory.view;
     expect(opposite.view().to_string() == "11111111111110" && memory.view != opposite, "~");
     memory.check("00000000000001", "what ~ was made of");

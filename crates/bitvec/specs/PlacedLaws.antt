@@ -9,7 +9,7 @@ use Rattle.std.specs.Cmp.{booleans_Decides}
 use Rattle.std.specs.Set.{sorted_merge}
 use Rattle.std.specs.declared.cmp.Ordering.TheVariants.{Less, Equal, Greater}
 use Rattle.std.proofs.Common.{◌∙◌, ap, arith, sym, subst, ⊎_elim}
-use Rattle.std.proofs.lemmas.Bool.{cases_eq, eq-eqb, le-ltb, lt-ltb, ne_eqb, or_parts}
+use Rattle.std.proofs.lemmas.Bool.{cases_eq, eq-eqb, le-ltb, lt-ltb, ne_eqb}
 use Rattle.std.proofs.lemmas.List.{get_or-map, get_or-set_other, get_or-set_same, length-map, length-set}
 use Rattle.std.proofs.lemmas.List.Sums.{sum_by-cons}
 use Rattle.bitvec_base.specs.Counts.{ones_of, zeros_of}
@@ -22,12 +22,12 @@ use Rattle.bitvec.specs.Operators.{and_not_of, and_of, or_of, xor_of}
 
 -- ---- by recursion
 
--- the numbers of the bits that are 1, where the first bit has the number `from`
+-- It lists the numbers of the bits that are 1, where the first bit has the number `from`.
 abbrev ones_from : ℕ → List Bool → List ℕ
 ones_from from [] = []
 ones_from from (bit ∷ bits) = cond bit (from ∷ ones_from (from + 1) bits) (ones_from (from + 1) bits)
 
--- whether each bit is the wanted one
+-- It tells of each bit whether it is the wanted one.
 abbrev marks : Bool → List Bool → List Bool
 marks wanted bits = map (λ bit. beq bit wanted) bits
 
@@ -112,7 +112,7 @@ places-append wanted xs ys =
 
 -- ---- each place, and how many there are
 
--- what is known of place k
+-- `place`, which comes `k`-th, is the number of a 1 that has `k` ones before it.
 record IsOne (from : ℕ) (bits : List Bool) (k place : ℕ) : Type 0 where
   i : ℕ
   is : place ≡ from + i
@@ -413,7 +413,7 @@ places-and_not bits other =
     places-kept (λ place. not (slice_index_or other place false)) bits (and_not_of bits other) (length-combined _ bits other)
     (λ i h. get-combined _ bits other i false h)
 
--- the bit of two where ones meet: `both` where each is 1
+-- A place is kept if one of the two bits is 1; if each is, `both` says so.
 abbrev joins : Bool → Bool → Bool → Bool
 joins both bit other = cond bit (cond other both true) other
 

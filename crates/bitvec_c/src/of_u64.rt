@@ -3,7 +3,7 @@ ghost use Rattle.std.specs.Prelude.{◌&&◌};
 ghost use Rattle.bitvec_base.specs.Lists.{differs};
 ghost use Rattle.bitvec_run.specs.declared.command.Op.TheVariants.{All, And, Any, Cmp, Contains, CopyFrom, CopyWithin, CountOnes, CountZeros, EndsWith, Eq, Fill, FirstOne, FirstZero, Get, Invert, LastOne, LastZero, Or, Replace, Reverse, RotateLeft, RotateRight, Set, ShiftEnd, ShiftStart, StartsWith, Swap, Xor};
 ghost use Rattle.bitvec_segments.specs.Segments.{loaded_be, loaded_le, stored_be, stored_le};
-ghost use Rattle.bitvec_checked.specs.Calls.{Asks, AsksBeside, CopiesEvery, CountsEvery, EditsBeside, EditsBy, FillsEvery, Loads, Seeks, Stores, Swaps, Tells};
+ghost use Rattle.bitvec_checked.specs.Calls.{Asks, AsksBeside, CopiesEvery, CountsEvery, EditsBeside, EditsBy, FillsEvery, Joins, Loads, Seeks, Stores, Swaps, Tells};
 ghost use Rattle.bitvec_checked.specs.Pairs.{no_pair_where, only_first, pairs_where};
 ghost use Rattle.bitvec_checked.specs.Replies.{bit_of, count_of, order_of};
 ghost use Rattle.bitvec_checked.specs.Statuses.{bits_from};
@@ -240,6 +240,22 @@ pub extern "C" fn fb_u64_xor(
     ensures { EditsBeside order 64 (λ x. x) (Xor (bits_from right_start right_len)) (bits_from start len) elements.old elements.new right.now result }
 {
     bitvec_checked::xor(order, elements, start, len, right, right_start, right_len)
+}
+
+/// Clears each bit of a window where the right one at its index, 0 past the right window's end, is 1.
+#[unsafe(no_mangle)]
+pub extern "C" fn fb_u64_and_not(
+    order: u32,
+    elements: &mut [u64],
+    start: usize,
+    len: usize,
+    right: &[u64],
+    right_start: usize,
+    right_len: usize,
+) -> u32
+    ensures { Joins order 64 (λ x. x) only_first (bits_from start len) (bits_from right_start right_len) elements.old elements.new right.now result }
+{
+    bitvec_checked::and_not(order, elements, start, len, right, right_start, right_len)
 }
 
 /// Exchanges the bits of two windows, which are as long.

@@ -3,6 +3,7 @@
 -- `order` is the number of an order, and elements have b bits; `old` and `new` are what was there before and is there after.
 use Rattle.std.specs.Prelude.{◌≡◌, ◌≢◌, ℕ, ◌-◌, Bool, true, false, List, [], count_by, map, slice_index_or, MatchOption}
 use Rattle.bitvec_base.specs.declared.window.Window.{Window}
+use Rattle.bitvec_base.specs.Lists.{combined}
 use Rattle.bitvec_base.specs.Memory.{Writes, list_in, memory_bits}
 use Rattle.bitvec_run.specs.declared.command.Op.{Op}
 use Rattle.bitvec_run.specs.declared.command.Op.TheVariants.{And, CopyFrom}
@@ -54,6 +55,12 @@ module _ {E : Type 0} (order b : ℕ) (value : E → ℕ) where
   pub record Tells {X : Type 0} (answer : List Bool → List Bool → X) (window right_window : Window) (elements right : List E) (old new : X) (status : ℕ) : Type 0 where
     pub status_is : status ≡ status_beside order b (map value elements) window (map value right) (And right_window)
     pub answers : status ≡ 0 → Under order (λ at high. new ≡ answer (list_in b at (map value elements) window) (list_in b at (map value right) right_window))
+    pub unchanged : status ≢ 0 → new ≡ old
+
+  -- bits that are made of those of two windows, 0 past the right one's end, which is refused as `and` of them is
+  pub record Joins (f : Bool → Bool → Bool) (window right_window : Window) (old new right : List E) (status : ℕ) : Type 0 where
+    pub status_is : status ≡ status_beside order b (map value old) window (map value right) (And right_window)
+    pub writes : status ≡ 0 → Under order (λ at high. Writes b at (map value old) (map value new) window (combined f (list_in b at (map value old) window) (list_in b at (map value right) right_window)))
     pub unchanged : status ≢ 0 → new ≡ old
 
   -- an exchange of two windows, which is refused as a copy of the right one is

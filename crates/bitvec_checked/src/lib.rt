@@ -55,4 +55,4 @@ pub use scanning::{first_one, first_zero, last_one, last_zero};
 pub use status::{
     DONE, LSB0, MSB0, NONE, ORDER, SIZE, end_status, memories_status, or_next, window_status,
 };
-pub use transfers::{and, copy, or, swap, xor};
+pub use transfers::{and, and_not, copy, or, swap, xor};

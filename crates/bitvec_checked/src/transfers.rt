@@ -1,6 +1,7 @@
 //! Bits of a window copied from a window of another memory, combined with its bits, or exchanged for them.
 ghost use Rattle.bitvec_run.specs.declared.command.Op.TheVariants.{And, CopyFrom, Or, Xor};
-ghost use Rattle.bitvec_checked.specs.Calls.{EditsBeside, Swaps};
+ghost use Rattle.bitvec_checked.specs.Calls.{EditsBeside, Joins, Swaps};
+ghost use Rattle.bitvec_checked.specs.Pairs.{only_first};
 ghost use Rattle.bitvec_checked.specs.Statuses.{bits_from};
 
 use crate::status::{equal_windows_status, windows_status};
@@ -107,6 +108,31 @@ pub fn xor<T: BitStore>(
         status,
         order,
         combine_block_in::<T>(elements, window, right, right_window, BitOp::Xor)
+    )
+}
+
+/// Clears each bit of a window where the one at its index in the right window, 0 past its end, is 1.
+pub fn and_not<T: BitStore>(
+    order: u32,
+    elements: &mut [T],
+    start: usize,
+    len: usize,
+    right: &[T],
+    right_start: usize,
+    right_len: usize,
+) -> u32
+    ensures { Joins order T.BITS T.value only_first (bits_from start len) (bits_from right_start right_len) elements.old elements.new right.now result }
+{
+    let window = Window { start, len };
+    let right_window = Window {
+        start: right_start,
+        len: right_len,
+    };
+    let status = windows_status(order, elements, window, right, right_window);
+    tested!(
+        status,
+        order,
+        combine_block_in::<T>(elements, window, right, right_window, BitOp::AndNot)
     )
 }
 

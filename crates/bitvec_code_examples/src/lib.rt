@@ -1,9 +1,11 @@
 //! Callers of `bitvec` as codecs, maps and containers need it: numbers of ranges side by side, what was found in place, the
-//! front of an array, cursors, and types of one's own that edit and are asked.
+//! front of an array, cursors, flags, sets of numbers, and types of one's own that edit and are asked.
 #![tactic(auto)]
 
 #[cfg(test)]
 mod cursors;
+#[cfg(test)]
+mod flags;
 #[cfg(test)]
 mod found;
 #[cfg(test)]
@@ -16,3 +18,5 @@ mod numbers_in_views;
 mod own_edits;
 #[cfg(test)]
 mod own_views;
+#[cfg(test)]
+mod sets;

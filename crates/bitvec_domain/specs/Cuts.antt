@@ -45,11 +45,11 @@ IsCutWithin b n (Inside part) = IsPartWithin b n part
 IsCutWithin b n (Across head start end tail) =
     IfSome head (IsHeadWithin b n start) × (start ≤ end) × (end ≤ n) × IfSome tail (IsTailWithin b n end)
 
--- The same part, with its element counted from the element `first` on.
+-- `part_from first part` is `part` with its element counted from the element `first` on.
 abbrev pub part_from : ℕ → Part → Part
 part_from first part = record { element = part.element - first; from = part.from; to = part.to }
 
--- The same part, if there is one, with its element counted from the element `first` on.
+-- `part_if_from first part` is that part, where there is one.
 abbrev pub part_if_from : ℕ → Option Part → Option Part
 part_if_from first None = None
 part_if_from first (Some part) = Some (part_from first part)

@@ -13,6 +13,7 @@ use Rattle.bitvec_base.specs.SliceLaws.{range-rest}
 use Rattle.bitvec_base.specs.Window.{window_of, write_at}
 use Rattle.bitvec_slice.specs.Seen.{shown}
 use Rattle.bitvec_slice.specs.SeenLaws.{length-memory, length_bits}
+use Rattle.bitvec_copying.specs.ElementsLaws.{numbers}
 use Rattle.bitvec_owned.specs.Copies.{Holds, KeepsAround}
 use Rattle.bitvec_owned.specs.Fronts.{LeavesFront}
 use Rattle.bitvec_owned.proofs.Rooms.{fewest}
@@ -20,11 +21,6 @@ use Rattle.bitvec_owned.proofs.FrontLists.{cut-front, cut-zeros, grown-front, gr
 
 pub times : (b x d c : ℕ) → x + d ≡ c → b * x + b * d ≡ b * c
 times b x d c is = rw (← is) (omega arith)
-
--- the numbers of elements that are 0
-pub numbers : {T : Type 0} (value : T → ℕ) (none : T) (n : ℕ) → value none ≡ 0 → map value (replicate n none) ≡ replicate n 0
-numbers value none zero is = refl
-numbers value none (suc n) is = rw (is, numbers value none n is) refl
 
 module _ {T : Type 0} (b : ℕ) (at : ℕ → ℕ → ℕ) (value : T → ℕ) (some : 0 < b) where
   abbrev bits_of : List T → List Bool

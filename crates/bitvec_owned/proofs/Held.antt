@@ -5,22 +5,16 @@ use Rattle.std.proofs.Common.{◌∙◌, ap, arith, sym}
 use Rattle.std.proofs.Math.Nat.{lt_of_mul-lt-mul_right}
 use Rattle.std.proofs.lemmas.Grind.{div_ceil_times}
 use Rattle.std.proofs.lemmas.List.{length-replicate}
-use Rattle.bitvec_base.specs.FilledLaws.{bits-zeros}
 use Rattle.bitvec_base.specs.Memory.{memory_bits}
 use Rattle.bitvec_base.specs.Window.{window_of, write_at}
 use Rattle.bitvec_base.specs.WriteLaws.{range-write_at, write_at-nil}
 use Rattle.bitvec_slice.specs.Seen.{Seen, shown}
-use Rattle.bitvec_owned.proofs.Fronts.{numbers}
+use Rattle.bitvec_copying.specs.ElementsLaws.{zeros}
 use Rattle.bitvec_owned.specs.Copies.{Holds}
 
 module _ {T : Type 0} (b : ℕ) (at : ℕ → ℕ → ℕ) (value : T → ℕ) (some : 0 < b) where
-  -- the bits of elements that are all 0
-  zeros : (none : T) (n : ℕ) → value none ≡ 0 → memory_bits b at (map value (replicate n none)) ≡ replicate (b * n) false
-  zeros none n is =
-      let long : length (replicate n 0) ≡ n = length-replicate {A = ℕ} n 0 in
-      rw (numbers value none n is) (rw long at (bits-zeros b at (replicate n 0) (rw long refl)))
-
-  holds : (elements : List T) (from n : ℕ) (list : List Bool) → n ≡ length list → length elements ≡ div_ceil (from + n) b
+  -- what elements hold into which a list was written, where all their bits were 0
+  pub holds : (elements : List T) (from n : ℕ) (list : List Bool) → n ≡ length list → length elements ≡ div_ceil (from + n) b
       → memory_bits b at (map value elements) ≡ write_at (replicate (b * length elements) false) from list → Holds b list from (shown b at value elements from n)
   unfolding window_of
   holds elements from n list long count written =
@@ -41,7 +35,7 @@ module _ {T : Type 0} (b : ℕ) (at : ℕ → ℕ → ℕ) (value : T → ℕ) (
       → sequence ≡ shown b at value elements from n → Holds b list from sequence
   held none old elements count from n list sequence is_zero filled many rounded long written is =
       let size : length elements ≡ count = many ∙ ap length filled ∙ length-replicate count none in
-      let before : memory_bits b at (map value old) ≡ replicate (b * length elements) false = rw (size, filled) (zeros none count is_zero) in
+      let before : memory_bits b at (map value old) ≡ replicate (b * length elements) false = rw (size, filled) (zeros b at value none count is_zero) in
       rw is (holds elements from n list long (size ∙ rounded) (written ∙ ap (λ (memory : List Bool). write_at memory from list) before))
 
   -- a sequence of no element

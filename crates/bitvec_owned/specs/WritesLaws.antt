@@ -4,7 +4,7 @@ use Rattle.std.specs.Int.{div_ceil}
 use Rattle.std.proofs.Common.{arith, sym, subst, ◌∙◌, ap}
 use Rattle.std.proofs.Math.Nat.{le-div_iff_mul-le, mul-le-mul_left}
 use Rattle.std.proofs.lemmas.Grind.{div_ceil_times}
-use Rattle.std.proofs.lemmas.List.{length-map, length-replicate, take_at}
+use Rattle.std.proofs.lemmas.List.{length-map, length-replicate}
 use Rattle.bitvec_base.specs.Memory.{Writes, memory_bits}
 use Rattle.bitvec_base.specs.Window.{max_bits, window_of, write_at}
 use Rattle.bitvec_base.specs.WindowLaws.{window-written}
@@ -15,19 +15,12 @@ use Rattle.bitvec_slice.specs.Seen.{Seen, outside_of, shown}
 use Rattle.bitvec_slice.specs.SeenLaws.{length_bits, within_memory}
 use Rattle.bitvec_slice.specs.Showing.{ShowsElements, shows_elements}
 use Rattle.bitvec_store.specs.declared.store.BitStore.{Ghosts as Store}
+use Rattle.bitvec_copying.specs.ElementsLaws.{same_length}
 use Rattle.bitvec_owned.specs.Copies.{Holds}
 use Rattle.bitvec_owned.specs.Lending.{with_elements}
 use Rattle.bitvec_owned.specs.Owned.{bit_capacity, owned, usable_bits}
 use Rattle.bitvec_owned.specs.Writes.{WritesOwned}
 use Rattle.bitvec_owned.specs.declared.bit_vec.BitVec.{BitVec}
-
--- Two lists that are as long after a function was applied to each value are as long before.
-pub same_length : {X Y : Type 0} (f : X → Y) (xs ys : List X) → length (map f xs) ≡ length (map f ys) → length xs ≡ length ys
-same_length f xs ys same = let first = length-map xs f in let second = length-map ys f in omega arith
-
--- A list of `n` values, filled up with old ones, has itself as its first `n` values.
-pub refilled : {X : Type 0} (xs old : List X) (n : ℕ) → length xs ≡ n → take n (xs ++ drop (length xs) old) ≡ xs
-refilled xs old n long = take_at xs (drop (length xs) old) n long
 
 -- The elements for which a sequence has memory hold the bits up to `end`.
 pub held-usable : (b end n capacity : ℕ) → 0 < b → n ≡ div_ceil end b → n ≤ capacity → b * n ≤ max_bits → end ≤ usable_bits b capacity

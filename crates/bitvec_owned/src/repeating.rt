@@ -9,8 +9,8 @@ ghost use Rattle.bitvec_owned.specs.declared.repeating.RepeatError.TheVariants.{
 ghost use Rattle.bitvec_slice.specs.Views.{seen};
 
 use crate::BitVec;
-use crate::copying::zeros;
 use bitvec_base::{MAX_BITS, Window};
+use bitvec_copying::zeros;
 use bitvec_elements::copy_from_block_in;
 use bitvec_engine::SliceOrder;
 use bitvec_slice::BitSlice;

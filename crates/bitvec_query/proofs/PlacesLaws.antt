@@ -2,11 +2,11 @@
 use Rattle.std.specs.Prelude.{◌≡◌, ◌≢◌, ℕ, ◌+◌, ◌-◌, ◌<◌, ◌≤◌, zero, suc, Bool, true, false, cond, Some, None, List, [], ◌∷◌, ◌++◌, length, filter, count_by, slice_index_or, slice_range, refl}
 use Rattle.std.specs.Bool.{beq}
 use Rattle.std.specs.Cmp.{booleans_Decides}
-use Rattle.std.specs.List.{range_with_len}
+use Rattle.std.specs.List.{All, range_with_len}
 use Rattle.std.proofs.Common.{arith, sym, ◌∙◌, ap}
 use Rattle.std.proofs.lemmas.Bool.{false_from_ne_true}
-use Rattle.std.proofs.lemmas.List.Elements.{filter-append}
-use Rattle.std.proofs.lemmas.List.FromFn.{length-range_with_len}
+use Rattle.std.proofs.lemmas.List.Elements.{All-filter, filter-append}
+use Rattle.std.proofs.lemmas.List.FromFn.{get_or-range_with_len, length-range_with_len}
 use Rattle.std.proofs.lemmas.List.Sums.{count_by-le-length, length-filter}
 use Rattle.std.proofs.Math.Bridge.{le_prop}
 use Rattle.std.proofs.Math.Nat.{sub_self}
@@ -140,6 +140,14 @@ few_places wanted list =
     let most = count_by-le-length test (range_with_len 0 (length list)) in
     let all = length-range_with_len 0 (length list) in
     omega arith
+
+-- each is below the length
+pub places_inside : (wanted : Bool) (list : List Bool) → All (λ index. index < length list) (places_of wanted list)
+unfolding places_of
+places_inside wanted list =
+    All-filter (λ i. beq (slice_index_or list i false) wanted) (λ index. index < length list) (range_with_len 0 (length list)) (λ k d h.
+    let long = length-range_with_len 0 (length list) in
+    let is = get_or-range_with_len 0 (length list) k d (omega arith) in omega arith)
 
 -- there is one proof at most of what a rest is
 pub IsRestOf-prop : (rest : Rest) (n : ℕ) → IsProp (IsRestOf rest n)

@@ -1,5 +1,6 @@
 //! The calls that make walks over the ones and the zeros of a view.
-ghost use Rattle.std.specs.Prelude.{◌≡◌, ◌≤◌, false, length, true};
+ghost use Rattle.std.specs.Prelude.{◌≡◌, ◌<◌, ◌≤◌, false, length, true};
+ghost use Rattle.std.specs.List.{All};
 ghost use Rattle.bitvec_base.specs.Lists.{places_of};
 ghost use Rattle.bitvec_base.specs.Window.{max_bits};
 
@@ -24,6 +25,7 @@ pub trait OnesCalls<T>: Shows<T> {
     /// ```
     fn iter_ones(self) -> Self::Ones
         ensures indices { Self.Ones.left result ≡ places_of true (Self.shows self).bits }
+        ensures inside { All (λ index. index < (Self.shows self).window.len) (Self.Ones.left result) }
         ensures few { length (Self.Ones.left result) ≤ max_bits }
         ensures runs { Self.Ones.Ascends result }
         ensures runs_back { Self.Ones.Descends result };
@@ -37,6 +39,7 @@ pub trait OnesCalls<T>: Shows<T> {
     /// ```
     fn iter_zeros(self) -> Self::Zeros
         ensures indices { Self.Zeros.left result ≡ places_of false (Self.shows self).bits }
+        ensures inside { All (λ index. index < (Self.shows self).window.len) (Self.Zeros.left result) }
         ensures few { length (Self.Zeros.left result) ≤ max_bits }
         ensures runs { Self.Zeros.Ascends result }
         ensures runs_back { Self.Zeros.Descends result };

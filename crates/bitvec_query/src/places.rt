@@ -59,15 +59,17 @@ impl<'a, T: BitStore, O: BitOrder, W: Wanted> Clone for Places<'a, T, O, W> {
 }
 
 impl<'a, T: BitStore, O: BitOrder, W: Wanted> Places<'a, T, O, W> {
-    ghost use Rattle.std.specs.Prelude.{◌≤◌, length};
+    ghost use Rattle.std.specs.Prelude.{◌<◌, ◌≤◌, length};
+    ghost use Rattle.std.specs.List.{All};
     ghost use Rattle.bitvec_base.specs.Lists.{places_of};
     ghost use Rattle.bitvec_base.specs.Window.{max_bits};
     ghost use Rattle.bitvec_query.specs.Indices.{RunsInOrder, RunsInReverse, remaining_indices};
 
     /// The indices of all bits of the view that `W` names. `bitvec` has no such call.
-    #[tactic(auto, using(crate::proofs::PlacesLaws::all_places, crate::proofs::PlacesLaws::few_places), unfolding(crate::specs::Indices::remaining_indices))]
+    #[tactic(auto, using(crate::proofs::PlacesLaws::all_places, crate::proofs::PlacesLaws::few_places, crate::proofs::PlacesLaws::places_inside), unfolding(crate::specs::Indices::remaining_indices))]
     pub fn new(view: BitSlice<'a, T, O>) -> Self
         ensures indices { remaining_indices result ≡ places_of W.BIT (seen view.entry).bits }
+        ensures inside { All (λ index. index < (seen view.entry).window.len) (remaining_indices result) }
         ensures few { length (remaining_indices result) ≤ max_bits }
         ensures runs { RunsInOrder result }
         ensures runs_back { RunsInReverse result }

@@ -1,11 +1,12 @@
 //! Questions about the bits of a view.
-ghost use Rattle.std.specs.Prelude.{◌≡◌, ◌&&◌, count_by, false, not, true};
+ghost use Rattle.std.specs.Prelude.{◌≡◌, ◌≤◌, ◌&&◌, count_by, false, not, slice_get, take, true};
 ghost use Rattle.std.specs.Cmp.Lexicographic.{slice_cmp};
 ghost use Rattle.std.specs.List.{list_all, list_any, prefix_len, suffix_len};
 ghost use Rattle.std.specs.Ordering.{bool_cmp};
-ghost use Rattle.bitvec_base.specs.Lists.{first_place, is_prefix, is_suffix, last_place, same_bits, stands_in};
+ghost use Rattle.bitvec_base.specs.Lists.{first_place, is_prefix, is_suffix, last_place, places_of, same_bits, stands_in};
 ghost use Rattle.bitvec_slice.specs.Views.{seen};
 
+use crate::places::IterOnes;
 use crate::runs::{before_first, behind_last};
 use bitvec_base::BitOrder;
 use bitvec_elements::{
@@ -47,6 +48,24 @@ pub trait BitQueries<T: BitStore, O: SliceOrder>: View<T, O> {
         ensures { result ≡ count_by not (Self.shows self.now).bits }
     {
         self.as_bitslice().len() - self.count_ones()
+    }
+
+    /// How many of the bits before an index are 1: the rank of the index. Condition: the index is at most the length.
+    /// `bitvec` has no such call; it is that of `view[..index].count_ones()`.
+    #[inline(always)]
+    final fn count_ones_before(&self, index: usize) -> usize
+        requires { index ≤ (Self.shows self.now).window.len }
+        ensures { result ≡ count_by (λ bit. bit) (take index (Self.shows self.now).bits) }
+    {
+        self.as_bitslice().into_part(0..index).count_ones()
+    }
+
+    /// The index of the bit that is 1 and has `n` such bits before it, if there is one. `bitvec` has no such call; it is
+    /// that of `view.iter_ones().nth(n)`, and takes as long.
+    final fn nth_one(&self, n: usize) -> Option<usize>
+        ensures { result ≡ slice_get (places_of true (Self.shows self.now).bits) n }
+    {
+        IterOnes::<T, O>::new(self.as_bitslice()).nth(n)
     }
 
     /// The index of the first bit that is 1, if there is one.

@@ -8,7 +8,7 @@ use Rattle.bitvec_base.specs.WriteLaws.{write_at-nil}
 use Rattle.bitvec_store.specs.WidthLaws.{width_some}
 use Rattle.bitvec_slice.specs.Views.{seen}
 use Rattle.bitvec_owned.proofs.Held.{held}
-use Rattle.bitvec_owned.specs.WritesLaws.{refilled}
+use Rattle.bitvec_copying.specs.ElementsLaws.{refilled}
 use Rattle.bitvec_owned.proofs.Repeats.{length-repeated, repeat-none}
 use Rattle.bitvec_owned.proofs.repeating.repeat_of.Goals as goal
 

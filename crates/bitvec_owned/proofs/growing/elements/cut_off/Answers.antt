@@ -1,7 +1,7 @@
 use Rattle.std.proofs.Common.{◌≡◌, ◌∙◌, length}
 use Rattle.bitvec_store.specs.WidthLaws.{width_some}
 use Rattle.bitvec_owned.proofs.Fronts.{cut}
-use Rattle.bitvec_owned.specs.WritesLaws.{refilled}
+use Rattle.bitvec_copying.specs.ElementsLaws.{refilled}
 use Rattle.bitvec_owned.proofs.growing.elements.cut_off.Goals as goal
 
 pub returns-clause-left : goal.returns-clause-left

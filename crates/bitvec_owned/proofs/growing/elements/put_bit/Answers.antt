@@ -2,7 +2,7 @@ use Rattle.std.proofs.Common.{◌≡◌, ◌∙◌, [], ◌∷◌, length, refl}
 use Rattle.bitvec_store.specs.WidthLaws.{width_some}
 use Rattle.bitvec_owned.proofs.FrontLists.{one-set}
 use Rattle.bitvec_owned.proofs.Fronts.{grown}
-use Rattle.bitvec_owned.specs.WritesLaws.{refilled, same_length}
+use Rattle.bitvec_copying.specs.ElementsLaws.{refilled, same_length}
 use Rattle.bitvec_owned.proofs.growing.elements.put_bit.Goals as goal
 
 pub returns-clause-left : goal.returns-clause-left
