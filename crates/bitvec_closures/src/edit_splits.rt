@@ -48,7 +48,7 @@ pub trait EditSplits<T: BitStore, O: BitOrder>: EditParts<T, O> {
     /// The range of the next piece. Conditions: the view has the range that is left; `pred` may be asked
     /// about its bits.
     #[doc(hidden)]
-    #[tactic(auto, using(bitvec_split::specs::AskedLaws::may_ask_of_fewer, bitvec_split::specs::AskedLaws::may_ask_unfinished))]
+    #[tactic(auto, using(bitvec_domain::specs::PredicatesLaws::may_ask_of_fewer, bitvec_domain::specs::PredicatesLaws::may_ask_unfinished))]
     final fn step<W: SplitKind, P: FnMut(usize, &bool) -> bool>(
         &self,
         left: &mut ToSplit,
@@ -102,7 +102,7 @@ pub trait EditSplits<T: BitStore, O: BitOrder>: EditParts<T, O> {
 
     /// The range of the next piece of a limited split. Conditions: as for `step`.
     #[doc(hidden)]
-    #[tactic(auto, using(bitvec_split::specs::AskedLaws::may_ask_of_fewer, bitvec_split::specs::AskedLaws::may_ask_unfinished))]
+    #[tactic(auto, using(bitvec_domain::specs::PredicatesLaws::may_ask_of_fewer, bitvec_domain::specs::PredicatesLaws::may_ask_unfinished))]
     final fn limited_step<W: SplitKind, P: FnMut(usize, &bool) -> bool>(
         &self,
         left: &mut ToSplit,

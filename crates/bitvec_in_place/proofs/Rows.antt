@@ -5,10 +5,10 @@ use Rattle.std.proofs.lemmas.List.{take_more}
 use Rattle.std.proofs.lemmas.List.Sums.{sum_by-cons, sum_by_push}
 use Rattle.bitvec_in_place.specs.ChangesLaws.{number-unchanged}
 use Rattle.bitvec_in_place.specs.Ranges.{ChangesOnly, number_in}
-use Rattle.bitvec_in_place.specs.Rows.{HasRow, row_len}
+use Rattle.bitvec_in_place.specs.Rows.{HasRow, StandInRow, row_len}
 
 -- an edit behind them leaves them
-row-unchanged : (high : Bool) (b : ℕ) (old new : List Bool) (m e from : ℕ) (row : List (ℕ × ℕ)) → ChangesOnly m e old new → m ≤ length old → from + row_len row ≤ m → HasRow high b old from row → HasRow high b new from row
+row-unchanged : (high : Bool) (b : ℕ) (old new : List Bool) (m e from : ℕ) (row : List (ℕ × ℕ)) → ChangesOnly m e old new → m ≤ length old → from + row_len row ≤ m → StandInRow high b old from row → StandInRow high b new from row
 row-unchanged high b old new m e from [] kept inside order has = tt
 row-unchanged high b old new m e from (field ∷ row) kept inside order has =
     let total : row_len (field ∷ row) ≡ field.0 + row_len row = sum_by-cons (λ (f : ℕ × ℕ). f.0) field row in (
@@ -17,8 +17,8 @@ row-unchanged high b old new m e from (field ∷ row) kept inside order has =
     )
 
 -- one more stands behind them
-row-push : (high : Bool) (b : ℕ) (list : List Bool) (from m : ℕ) (row : List (ℕ × ℕ)) (field : ℕ × ℕ) → m ≡ from + row_len row → HasRow high b list from row
-    → number_in high high b list m (m + field.0) ≡ field.1 % 2 ^ field.0 → HasRow high b list from (row ++ field ∷ [])
+row-push : (high : Bool) (b : ℕ) (list : List Bool) (from m : ℕ) (row : List (ℕ × ℕ)) (field : ℕ × ℕ) → m ≡ from + row_len row → StandInRow high b list from row
+    → number_in high high b list m (m + field.0) ≡ field.1 % 2 ^ field.0 → StandInRow high b list from (row ++ field ∷ [])
 row-push high b list from m [] field at has number =
     let here : m ≡ from = omega arith in
     (rw here at number, tt)
@@ -34,6 +34,7 @@ pub row-more : (high : Bool) (b : ℕ) (old new : List Bool) (from m e i : ℕ) 
     → number_in high high b new m (m + (slice_index_or row i d).0) ≡ (slice_index_or row i d).1 % 2 ^ (slice_index_or row i d).0
     → m ≡ from + row_len (take i row) → m ≤ length old → i < length row → HasRow high b new from (take (i + 1) row)
 row-more high b old new from m e i row d has kept number at inside more =
-    rw (take_more row i d more) (row-push high b new from m (take i row) (slice_index_or row i d) at (row-unchanged high b old new m e from (take i row) kept inside (omega arith) has) number)
+    let before = row-unchanged high b old new m e from (take i row) kept inside (omega arith) has.numbers in
+    record { numbers = rw (take_more row i d more) (row-push high b new from m (take i row) (slice_index_or row i d) at before number) }
 
 pub ruleset rooms = (arith, row_len-more)

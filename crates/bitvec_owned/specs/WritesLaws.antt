@@ -1,10 +1,10 @@
 -- What an owned sequence shows, and what it is after its elements were written in its window.
-use Rattle.std.specs.Prelude.{◌≡◌, ℕ, ◌+◌, ◌-◌, ◌*◌, ◌/◌, ◌<◌, ◌≤◌, Bool, false, List, ◌++◌, drop, length, map, min, replicate, take, refl, vec_capacity, vec_len}
+use Rattle.std.specs.Prelude.{◌≡◌, ℕ, ◌+◌, ◌*◌, ◌/◌, ◌<◌, ◌≤◌, Bool, false, List, drop, length, map, min, replicate, take, refl, vec_capacity, vec_len}
 use Rattle.std.specs.Int.{div_ceil}
 use Rattle.std.proofs.Common.{arith, sym, subst, ◌∙◌, ap}
 use Rattle.std.proofs.Math.Nat.{le-div_iff_mul-le, mul-le-mul_left}
 use Rattle.std.proofs.lemmas.Grind.{div_ceil_times}
-use Rattle.std.proofs.lemmas.List.{length-map, length-replicate}
+use Rattle.std.proofs.lemmas.List.{length-replicate}
 use Rattle.bitvec_base.specs.Memory.{Writes, memory_bits}
 use Rattle.bitvec_base.specs.Window.{max_bits, window_of, write_at}
 use Rattle.bitvec_base.specs.WindowLaws.{window-written}
@@ -15,7 +15,7 @@ use Rattle.bitvec_slice.specs.Seen.{Seen, outside_of, shown}
 use Rattle.bitvec_slice.specs.SeenLaws.{length_bits, within_memory}
 use Rattle.bitvec_slice.specs.Showing.{ShowsElements, shows_elements}
 use Rattle.bitvec_store.specs.declared.store.BitStore.{Ghosts as Store}
-use Rattle.bitvec_copying.specs.ElementsLaws.{same_length}
+use Rattle.bitvec_copying.specs.ElementsLaws.{refilled, same_length}
 use Rattle.bitvec_owned.specs.Copies.{Holds}
 use Rattle.bitvec_owned.specs.Lending.{with_elements}
 use Rattle.bitvec_owned.specs.Owned.{bit_capacity, owned, usable_bits}

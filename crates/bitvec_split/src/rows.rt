@@ -15,7 +15,7 @@ use std::ops::Range;
 /// The index at which `pred` says yes first, asked as a call from the front of these bits asks, or as one
 /// from the `back`. `bitvec` has no such call.
 #[doc(hidden)]
-#[tactic(auto, using(crate::specs::AskedLaws::may_ask_of_fewer))]
+#[tactic(auto, using(bitvec_domain::specs::PredicatesLaws::may_ask_of_fewer))]
 pub fn ask_row<W: SplitKind, T: BitStore, O: BitOrder, P: FnMut(usize, &bool) -> bool>(
     bits: BitSlice<'_, T, O>,
     back: bool,

@@ -74,7 +74,7 @@ impl<P: FnMut(usize, &bool) -> bool, W: SplitKind, L: SplitLimit> SplitState<P, 
     }
 
     // The next piece from the front of what is left, or from the back, as a range of the view.
-    #[tactic(auto, using(crate::specs::AskedLaws::may_ask_of_fewer, crate::specs::AskedLaws::may_ask_unfinished))]
+    #[tactic(auto, using(bitvec_domain::specs::PredicatesLaws::may_ask_of_fewer, bitvec_domain::specs::PredicatesLaws::may_ask_unfinished))]
     fn step_from<T: BitStore, O: BitOrder>(
         &mut self,
         bits: BitSlice<'_, T, O>,

@@ -79,7 +79,7 @@ impl<'a, T: BitStore, O: BitOrder, P: FnMut(usize, &bool) -> bool, W: SplitKind>
     }
 
     // The next piece from the front of what is left, or from the back.
-    #[tactic(auto, using(crate::specs::AskedLaws::may_ask_of_fewer, crate::specs::AskedLaws::may_ask_unfinished))]
+    #[tactic(auto, using(bitvec_domain::specs::PredicatesLaws::may_ask_of_fewer, bitvec_domain::specs::PredicatesLaws::may_ask_unfinished))]
     fn next_from(&mut self, back: bool) -> Option<BitSlice<'a, T, O>>
         requires { MayGoOn P.FnMut (left_of self.old) }
         ensures piece { SplitStep T.BITS P.FnMut W.INCLUSIVE (row_of W.INCLUSIVE back (left_of self.old).rest.window.len) (left_of self.old) (option_map seen result) (left_of self.new) }

@@ -1,4 +1,4 @@
-use Rattle.std.proofs.Common.{◌∙◌, ℕ, ◌+◌, ◌++◌, Bool, List, ap, length, length-append, subst, sym}
+use Rattle.std.proofs.Common.{◌∙◌, ℕ, ◌+◌, ◌++◌, ap, length, length-append, subst, sym}
 use Rattle.bitvec_slice.specs.Seen.{Seen}
 use Rattle.bitvec_store.specs.WidthLaws.{width_some}
 use Rattle.bitvec_owned.specs.Copies.{KeepsAround}

@@ -1,4 +1,4 @@
-use Rattle.std.proofs.Common.{◌≡◌, ◌<◌, ◌≤◌, ◌/◌, ◌-◌, ◌+◌, ◌*◌, ℕ, ap, arith, min, refl, vec_capacity}
+use Rattle.std.proofs.Common.{◌/◌, ◌-◌, ◌+◌, ℕ, ap, arith, min, refl, vec_capacity}
 use Rattle.std.specs.Int.{div_ceil}
 use Rattle.std.proofs.lemmas.Result.{on_err_weaker, on_ok_weaker}
 use Rattle.bitvec_base.specs.Window.{max_bits}

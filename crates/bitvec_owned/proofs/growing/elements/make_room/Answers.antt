@@ -1,7 +1,5 @@
-use Rattle.std.proofs.Common.{◌≡◌, ◌<◌, ◌/◌, arith, min, vec_capacity}
-use Rattle.std.specs.Int.{div_ceil}
+use Rattle.std.proofs.Common.{arith, vec_capacity}
 use Rattle.std.proofs.lemmas.Result.{on_err_weaker}
-use Rattle.bitvec_base.specs.Window.{max_bits}
 use Rattle.bitvec_store.specs.WidthLaws.{width_some}
 use Rattle.bitvec_owned.proofs.Rooms.{past-usable}
 use Rattle.bitvec_owned.proofs.growing.elements.make_room.Goals as goal

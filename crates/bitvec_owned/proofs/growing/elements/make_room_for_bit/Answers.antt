@@ -1,7 +1,6 @@
-use Rattle.std.proofs.Common.{◌≡◌, ◌<◌, ◌/◌, ◌-◌, ◌+◌, ◌∙◌, ◌++◌, List, ap, arith, min, replicate, refl, sym, vec_capacity}
+use Rattle.std.proofs.Common.{◌≡◌, ◌-◌, ◌+◌, ◌∙◌, arith, sym, vec_capacity}
 use Rattle.std.specs.Int.{div_ceil}
 use Rattle.std.proofs.lemmas.List.{append-nil}
-use Rattle.bitvec_base.specs.Window.{max_bits}
 use Rattle.bitvec_store.specs.WidthLaws.{width_some}
 use Rattle.bitvec_owned.proofs.Rooms.{next-touched, past-next, refused, same-touched}
 use Rattle.bitvec_owned.proofs.growing.elements.make_room_for_bit.Goals as goal
