@@ -31,7 +31,7 @@ pub fn put_in(numbers: &mut Numbers, number: usize) -> bool
 /// Puts the numbers of another set in. Condition: its length is no greater.
 #[tactic(auto, using(bitvec::specs::Laws::placed, bitvec::specs::Laws::grown))]
 pub fn unite(numbers: &mut Numbers, others: BitSlice<'_, u64, Lsb0>)
-    requires { (seen others.entry).window.len ≤ (owned numbers.old).window.len }
+    requires { (seen others).window.len ≤ (owned numbers.old).window.len }
     ensures { places_of true (owned numbers.new).bits ≡ sorted_merge nat_cmp true (places_of true (owned numbers.old).bits) (places_of true (seen others.entry).bits) }
 {
     numbers.or_bits(others);
@@ -53,13 +53,13 @@ pub fn number_at(numbers: BitSlice<'_, u64, Lsb0>, rank: usize) -> Option<usize>
     ensures member { IfSome result (λ number. slice_index_or (seen numbers.entry).bits number false ≡ true) }
     ensures rank { IfSome result (λ number. count_by (λ other. nat_lt other number) (places_of true (seen numbers.entry).bits) ≡ rank) }
 {
-    numbers.iter_ones().nth(rank)
+    numbers.nth_one(rank)
 }
 
 /// The first number of a set whose weight is 0. Condition: there are as many weights as bits.
 #[tactic(auto, using(bitvec::specs::Laws::placed))]
 pub fn first_idle(numbers: BitSlice<'_, u64, Lsb0>, weights: &[u32]) -> Option<usize>
-    requires { length weights.now ≡ (seen numbers.entry).window.len }
+    requires { length weights.now ≡ (seen numbers).window.len }
     ensures member { IfSome result (λ number. slice_index_or (seen numbers.entry).bits number false ≡ true) }
     ensures idle { IfSome result (λ number. slice_index weights.now number ≡ 0) }
 {
