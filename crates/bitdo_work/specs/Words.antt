@@ -35,9 +35,9 @@ words_left words = words_in words.rest
 
 -- ---- arguments: exactly as many words as the name says
 
-abbrev pub no_argument : List (List ℕ) → Option (Unit {0})
-no_argument [] = Some tt
-no_argument (word ∷ more) = None
+abbrev pub no_argument : List (List ℕ) → Bool
+no_argument [] = true
+no_argument (word ∷ more) = false
 
 abbrev pub one_word : List (List ℕ) → Option (List ℕ)
 one_word (word ∷ []) = Some word

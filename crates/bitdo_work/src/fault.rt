@@ -8,7 +8,7 @@ use std::alloc::{AllocError, AllocFailed};
 use std::fmt::{self, Display, Formatter};
 
 /// What ends the program without a run. Its text is the line that is printed then.
-#[derive(Debug, Drop)]
+#[derive(Drop)]
 pub(crate) enum Fault {
     /// The arguments aren't six words in their grammar.
     Arguments,

@@ -1,9 +1,10 @@
 //! The commands of the lines, in three tables.
 ghost use Rattle.std.specs.Prelude.{◌≡◌};
-ghost use Rattle.bitdo_work.specs.Ops.{op_of, right_op_of, query_of};
+ghost use Rattle.bitdo_work.specs.Ops.{op_of, right_op_of, bare_op_of};
 ghost use Rattle.bitdo_work.specs.Words.{words_left};
 
 use crate::words::Words;
+use bitvec_base::Window;
 use bitvec_run::Op;
 
 /// The command of a word and the arguments after it: a row a command, as many arguments as it
@@ -27,14 +28,6 @@ pub(crate) fn parse_op(word: &str, arguments: Words<'_>) -> Option<Op>
             Some(Op::Swap(first, second))
         }
         "fill" => arguments.bit().map(Op::Fill),
-        "invert" => {
-            arguments.none()?;
-            Some(Op::Invert)
-        }
-        "reverse" => {
-            arguments.none()?;
-            Some(Op::Reverse)
-        }
         "shift_start" => arguments.number().map(Op::ShiftStart),
         "shift_end" => arguments.number().map(Op::ShiftEnd),
         "rotate_left" => arguments.number().map(Op::RotateLeft),
@@ -43,36 +36,36 @@ pub(crate) fn parse_op(word: &str, arguments: Words<'_>) -> Option<Op>
             let (start, end, dest) = arguments.three_numbers()?;
             Some(Op::CopyWithin(start, end, dest))
         }
-        _ => parse_right_op(word, arguments),
+        _ if arguments.is_empty() => bare_op(word),
+        _ => right_op(word, arguments.window()?),
     }
 }
 
-/// Parses a command with a right window.
-#[tactic(auto, unfolding(crate::specs::Ops::right_op_of))]
-fn parse_right_op(word: &str, arguments: Words<'_>) -> Option<Op>
-    ensures { result ≡ right_op_of word.now (words_left arguments.entry) }
+/// The command of a word with a right window.
+fn right_op(word: &str, right: Window) -> Option<Op>
+    ensures { result ≡ right_op_of word.now right }
 {
     match word {
-        "copy_from" => arguments.window().map(Op::CopyFrom),
-        "and" => arguments.window().map(Op::And),
-        "or" => arguments.window().map(Op::Or),
-        "xor" => arguments.window().map(Op::Xor),
-        "eq" => arguments.window().map(Op::Eq),
-        "cmp" => arguments.window().map(Op::Cmp),
-        "starts_with" => arguments.window().map(Op::StartsWith),
-        "ends_with" => arguments.window().map(Op::EndsWith),
-        "contains" => arguments.window().map(Op::Contains),
-        _ => parse_query(word, arguments),
+        "copy_from" => Some(Op::CopyFrom(right)),
+        "and" => Some(Op::And(right)),
+        "or" => Some(Op::Or(right)),
+        "xor" => Some(Op::Xor(right)),
+        "eq" => Some(Op::Eq(right)),
+        "cmp" => Some(Op::Cmp(right)),
+        "starts_with" => Some(Op::StartsWith(right)),
+        "ends_with" => Some(Op::EndsWith(right)),
+        "contains" => Some(Op::Contains(right)),
+        _ => None,
     }
 }
 
-/// Parses a question without an argument.
-#[tactic(auto, unfolding(crate::specs::Ops::query_of))]
-fn parse_query(word: &str, arguments: Words<'_>) -> Option<Op>
-    ensures { result ≡ query_of word.now (words_left arguments.entry) }
+/// The command of a word without an argument.
+fn bare_op(word: &str) -> Option<Op>
+    ensures { result ≡ bare_op_of word.now }
 {
-    arguments.none()?;
     match word {
+        "invert" => Some(Op::Invert),
+        "reverse" => Some(Op::Reverse),
         "count_ones" => Some(Op::CountOnes),
         "count_zeros" => Some(Op::CountZeros),
         "first_one" => Some(Op::FirstOne),

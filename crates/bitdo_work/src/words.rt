@@ -1,27 +1,18 @@
 //! The words of a line, and what one word says.
 ghost use Rattle.std.specs.Prelude.{◌≡◌, ◌∷◌, [], IfSome, IfNone};
-ghost use Rattle.std.specs.Char.{is_ascii_digit};
-ghost use Rattle.std.specs.List.{list_all};
 ghost use Rattle.bitdo_work.specs.Words.{number_of, bit_of, words_of, words_left, no_argument, one_word, one_number, one_bit, number_and_bit, two_numbers, three_numbers, one_window};
 
 use bitvec_base::Window;
 
-/// Whether each byte is a decimal digit.
-fn is_decimal(word: &str) -> bool
-    ensures { result ≡ list_all is_ascii_digit word.now }
-{
-    word.bytes().all(|byte| byte.is_ascii_digit())
-}
-
-/// The number of a word of one or more decimal digits, leading zeros allowed. None, if the word is
-/// another one or its number doesn't fit.
+/// The number of a word of one or more decimal digits, leading zeros allowed but no plus. None, if the
+/// word is another one or its number doesn't fit.
 pub(crate) fn parse_number(word: &str) -> Option<usize>
     ensures { result ≡ number_of word.now }
 {
-    if !is_decimal(word) {
+    if word.starts_with('+') {
         return None;
     }
-    word.parse::<usize>().ok()
+    word.parse().ok()
 }
 
 /// The bit that `0` or `1` stands for.
@@ -80,14 +71,11 @@ impl<'a> Words<'a> {
         }
     }
 
-    /// No argument, for a command without any.
-    pub(crate) fn none(self) -> Option<()>
-        ensures { result ≡ no_argument (words_left self.entry) }
+    /// Whether no word is left.
+    pub(crate) fn is_empty(&self) -> bool
+        ensures { result ≡ no_argument (words_left self.now) }
     {
-        match self.rest {
-            Some(_) => None,
-            None => Some(()),
-        }
+        self.rest.is_none()
     }
 
     /// One number, and no word after it.
@@ -109,7 +97,7 @@ impl<'a> Words<'a> {
         ensures { result ≡ number_and_bit (words_left self.entry) }
     {
         let number = parse_number(self.next()?)?;
-        Some((number, parse_bit(self.last()?)?))
+        Some((number, self.bit()?))
     }
 
     /// Two numbers, and no word after them.

@@ -1,9 +1,8 @@
 -- Every so many bits of a window, by blocks that have the places of the step.
 use Rattle.std.specs.Prelude.{◌≡◌, ℕ, ◌+◌, ◌-◌, ◌*◌, ◌/◌, ◌%◌, ◌==◌, ◌<◌, ◌≤◌, min, Bool, true, false, not, ◌&&◌, ◌||◌, if◌then◌else◌, List, length, replicate, slice_index_or, slice_range, take, refl}
 use Rattle.std.proofs.Common.{arith, sym, ◌∙◌, ap, subst, zero-add}
-use Rattle.std.proofs.Math.Nat.{mod-add-mod}
+use Rattle.std.proofs.Math.Nat.{mod-add-mod, mul-mod_right}
 use Rattle.std.proofs.lemmas.List.{get_or-replicate, length-replicate}
-use Rattle.std.proofs.lemmas.Nat.{div-add-mod', mod-mul-add, mul-le}
 use Rattle.bitvec_base.specs.declared.window.Window.{Window}
 use Rattle.bitvec_base.specs.Lists.{combined}
 use Rattle.bitvec_base.specs.ListsLaws.{combined-is}
@@ -22,17 +21,11 @@ use Rattle.bitvec_checked.proofs.EveryLemmas.{get-with_every, length-with_every}
 
 -- ---- the size of a block
 
--- at most 512 elements
-pub block-most : (step b : ℕ) → 512 / step * step * b ≤ 512 * b
-block-most step b =
-    let rest = div-add-mod' 512 step in
-    mul-le (512 / step * step) b 512 b (omega (arith, rest)) (omega arith)
-
--- and whole steps
-block-phase : (step b : ℕ) → 0 < step → 512 / step * step * b % step ≡ 0
-block-phase step b some =
-    let whole : 512 / step * step * b ≡ 512 / step * b * step + 0 = omega arith in
-    ap (λ n. n % step) whole ∙ mod-mul-add (512 / step * b) step 0 some
+-- as many bits as there are in whole steps
+block-phase : (step m : ℕ) → 0 < step → (m - m % step) % step ≡ 0
+block-phase step m some =
+    let whole : m - m % step ≡ step * (m / step) = omega arith in
+    ap (λ n. n % step) whole ∙ mul-mod_right step (m / step)
 
 moved-phase : (from k step : ℕ) → from % step ≡ 0 → (from + k) % step ≡ k % step
 moved-phase from k step zero = sym (mod-add-mod from step k) ∙ ap (λ r. (r + k) % step) zero ∙ ap (λ n. n % step) (zero-add k)
@@ -41,9 +34,9 @@ size-next : (from m size count n : ℕ) → size ≡ min m n → count ≡ min s
 size-next from m size count n is part more = omega arith
 
 -- the next block begins at such a place too
-pub next-phase : (from size count n step b : ℕ) → 0 < step → from % step ≡ 0 → size ≡ min (512 / step * step * b) n → count ≡ min size (n - from) → from + count < n → (from + count) % step ≡ 0
-next-phase from size count n step b some zero is part more =
-    moved-phase from count step zero ∙ ap (λ k. k % step) (size-next from (512 / step * step * b) size count n is part more) ∙ block-phase step b some
+pub next-phase : (from size count n step m : ℕ) → 0 < step → from % step ≡ 0 → size ≡ min (m - m % step) n → count ≡ min size (n - from) → from + count < n → (from + count) % step ≡ 0
+next-phase from size count n step m some zero is part more =
+    moved-phase from count step zero ∙ ap (λ k. k % step) (size-next from (m - m % step) size count n is part more) ∙ block-phase step m some
 
 -- ---- its bits
 

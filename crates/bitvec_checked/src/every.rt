@@ -181,7 +181,8 @@ fn fill_blocks<T: BitStore, O: SliceOrder>(
     T::fits_in_memory();
     let bits = T::BITS as usize;
     let mut block = [T::ZERO; ROOM + 1];
-    let size = (ROOM / step * step * bits).min(window.len);
+    let room = ROOM * bits;
+    let size = (room - room % step).min(window.len);
     let pattern = Window {
         start: window.start % bits,
         len: size,

@@ -1,8 +1,14 @@
-use Rattle.std.proofs.Common.{◌≡◌, ◌<◌, ◌*◌, arith, refl, ◌∙◌, sym}
+use Rattle.std.proofs.Common.{◌≡◌, ◌*◌, arith, refl, ◌∙◌, sym}
 use Rattle.std.proofs.Math.ListN.{set}
 use Rattle.bitvec_base.specs.WritesLaws.{Writes-is, Writes-next, Writes-start, length-list}
 use Rattle.bitvec_checked.proofs.EveryLemmas.{first-all, first-next, first-none, get-every, place-below}
 use Rattle.bitvec_checked.proofs.every.copy_each.Goals as goal
+
+pub overflow_mul-place : goal.overflow_mul-place
+overflow_mul-place g c = let below = place-below c.loop-place.place c.args.right_step c.args.right_window.len c.requires.right_some (rw (c.div_ceil-place-end.ensures, c.requires.lengths) at c.loop-place-test.true) in record { fits = omega arith }
+
+pub overflow_mul-place-in-loop-place : goal.overflow_mul-place-in-loop-place
+overflow_mul-place-in-loop-place g c = let below = place-below c.loop-place.place c.args.step c.args.window.len c.requires.some (rw c.div_ceil-place-end.ensures at c.loop-place-test.true) in record { fits = omega arith }
 
 pub bit_in-bit-requires-clause-bound : goal.bit_in-bit-requires-clause-bound
 bit_in-bit-requires-clause-bound g c =

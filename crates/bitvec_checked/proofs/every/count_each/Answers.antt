@@ -4,6 +4,9 @@ use Rattle.bitvec_checked.proofs.EveryLemmas.{ones-all, ones-next, place-below}
 use Rattle.bitvec_checked.proofs.every.count_each.Goals as goal
 use Rattle.bitvec_checked.proofs.every.count_each.Goals.{then-bit_in, else-bit_in}
 
+pub overflow_mul-place : goal.overflow_mul-place
+overflow_mul-place g c = let below = place-below c.loop-place.place c.args.step c.args.window.len c.requires.some (rw c.div_ceil-place-end.ensures at c.loop-place-test.true) in record { fits = omega arith }
+
 pub bit_in-requires-clause-bound : goal.bit_in-requires-clause-bound
 bit_in-requires-clause-bound g c = place-below c.loop-place.place c.args.step c.args.window.len c.requires.some (rw c.div_ceil-place-end.ensures at c.loop-place-test.true)
 

@@ -1,8 +1,11 @@
-use Rattle.std.proofs.Common.{◌≡◌, ◌*◌, arith, get_or, map, refl, ◌∙◌, sym}
+use Rattle.std.proofs.Common.{◌≡◌, ◌*◌, arith, refl, ◌∙◌}
 use Rattle.std.proofs.Math.ListN.{set}
 use Rattle.bitvec_base.specs.WritesLaws.{Writes-is, Writes-next, Writes-start, length-list}
 use Rattle.bitvec_checked.proofs.EveryLemmas.{first-all, first-next, first-none, place-below}
 use Rattle.bitvec_checked.proofs.every.fill_each.Goals as goal
+
+pub overflow_mul-place : goal.overflow_mul-place
+overflow_mul-place g c = let below = place-below c.loop-place.place c.args.step c.args.window.len c.requires.some (rw c.div_ceil-place-end.ensures at c.loop-place-test.true) in record { fits = omega arith }
 
 pub set_in-requires-clause-bound : goal.set_in-requires-clause-bound
 set_in-requires-clause-bound g c = place-below c.loop-place.place c.args.step c.args.window.len c.requires.some (rw c.div_ceil-place-end.ensures at c.loop-place-test.true)

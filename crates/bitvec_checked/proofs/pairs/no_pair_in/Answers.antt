@@ -1,4 +1,4 @@
-use Rattle.std.proofs.Common.{◌≡◌, ◌+◌, arith, map, sym, ◌∙◌}
+use Rattle.std.proofs.Common.{◌≡◌, ◌+◌, arith, map, sym}
 use Rattle.std.proofs.lemmas.Nat.{ones_le_self}
 use Rattle.bitvec_base.specs.Lists.{combined}
 use Rattle.bitvec_base.specs.ListsLaws.{length-combined}
