@@ -2,7 +2,7 @@
 """rust.py LIBRARY: times the package for Rust beside its peers, and prints two tables.
 
 LIBRARY is the static library for C as the kit builds it. All is compiled by rustc at -O3 for x86-64-v2, the package also
-without its tests of conditions. The two builds take turns, three times, and the best time of each row counts."""
+without its tests of conditions. The two builds take turns, eight times, and the best time of each row counts."""
 import pathlib
 import re
 import shutil
@@ -15,7 +15,7 @@ REGISTRY = pathlib.Path("/usr/share/cargo/registry")
 WORDS = ["-C", "opt-level=3", "-C", "target-cpu=x86-64-v2", "-C", "codegen-units=1", "-C", "panic=abort", "--cap-lints", "allow",
          "-C", "llvm-args=-x86-branches-within-32B-boundaries"]
 FEATURES = ["--cfg", 'feature="std"', "--cfg", 'feature="alloc"']
-TURNS = 2
+TURNS = 8
 
 
 def rustc(source, name, folder, kind, *words):

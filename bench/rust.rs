@@ -1,5 +1,6 @@
 //! Times the package for Rust, its peers, the library as the kit builds it, through C, and loops by hand, all in one run, and
 //! prints a line a time: the bits, the operation, what carried it out and nanoseconds a call. `rust.py` makes a table of them.
+//! With these three words of a row and a number, the program makes so many calls of that row, for a tool that counts instructions.
 
 use bit_vec::BitVec as BitVecOfBitVec;
 use fehimbary::prelude::*;
@@ -62,9 +63,21 @@ struct Size {
     bits: usize,
 }
 
+/// The one row that is called, and how often, where the program's words say so: its bits, its operation, who, and the calls.
+fn chosen() -> Option<(String, usize)> {
+    let words: Vec<String> = std::env::args().skip(1).collect();
+    let (calls, row) = words.split_last()?;
+    Some((row.join("\t"), calls.parse().expect("how many calls")))
+}
+
 impl Size {
-    fn row(&self, operation: &str, who: &str, call: impl FnMut()) {
-        println!("{}\t{operation}\t{who}\t{}", self.bits, time(call));
+    fn row(&self, operation: &str, who: &str, mut call: impl FnMut()) {
+        let row = format!("{}\t{operation}\t{who}", self.bits);
+        match chosen() {
+            None => println!("{row}\t{}", time(call)),
+            Some((name, calls)) if name == row => (0..calls).for_each(|_| call()),
+            Some(_) => {}
+        }
     }
 
     fn two_sides(&self) {

@@ -9,7 +9,15 @@ from tokens import Unknown, is_mark, is_word, solid, text
 COUNTS = [(pattern(form), rust) for form, rust in table.COUNTS]
 TERMS = [(pattern(form), rust, words) for form, rust, words in table.TERMS]
 CONDITIONS = [(pattern(form), rust, words) for form, rust, words in table.CONDITIONS]
+# The rows of the table by which something was written.
+used = set()
 WIDE = {"≤": "<=", "<": "<", "≡": "=="}
+
+
+def unused():
+    """The rows of the table by which nothing was written."""
+    rows = [(*row[:2],) for row in [*COUNTS, *TERMS, *CONDITIONS]]
+    return [str(row[0]) for row in rows if row not in used] + [head for head in [*table.NOTHING, *table.STAYS] if head not in used]
 
 
 class Test:
@@ -29,6 +37,7 @@ class Conditions:
         """The test of a clause; None where Rust grants it."""
         head = next((node.text for node in solid(clause.group.inner) if is_word(node)), "")
         if head in table.NOTHING or head in table.STAYS:
+            used.add(head)
             return None
         try:
             term = clauses.clause(clause.group.inner)
@@ -36,6 +45,7 @@ class Conditions:
             for form, rust, words in CONDITIONS:
                 found = {}
                 if match(form, term, found):
+                    used.add((form, rust))
                     wide = term.head in WIDE and rust.startswith("{a}") and self.is_wide(term)
                     test = self.filled(rust, found, wide)
                     return None if test == "true" else Test(test, self.said(words, found), list(self.values.items()))
@@ -57,6 +67,7 @@ class Conditions:
         for form, rust in COUNTS:
             found = {}
             if match(form, term, found):
+                used.add((form, rust))
                 if rust.startswith("#"):
                     return self.count(found["list"])
                 name = str(found.get("list", Term("self")))
@@ -77,6 +88,7 @@ class Conditions:
         for form, rust, words in TERMS:
             found = {}
             if match(form, term, found):
+                used.add((form, rust))
                 made = self.filled(rust, found, False)
                 if "::" not in made or "(" in made:
                     self.values[self.filled_words(words, found)] = made

@@ -22,6 +22,8 @@ EVERY = ("Drop", "Leak")
 PROOF_IMPLS = ("Model",)
 # A method whose trait answers a result in Rattle and none in Rust: the trait here and the method's name there.
 ANSWERS = {"Extend": ("crate::memory::TryExtend", "extend", "try_extend")}
+# Methods of std that Rust has only from a newer version on: the trait that has each here, and its name there.
+NEWER = {"div_ceil": ("RoundUp", "div_up"), "next_multiple_of": ("RoundUp", "multiple_up")}
 # Type parameters that have a default in Rust.
 DEFAULTS = {("BitVec", "A"): "crate::memory::Global"}
 
@@ -33,7 +35,7 @@ class Eraser:
 
     def __init__(self, file, home, paths, tester, contracts=None):
         self.file, self.home, self.paths, self.tester, self.contracts = file, home, paths, tester, contracts
-        self.macros, self.uses_vec, self.words = set(), False, {}
+        self.macros, self.newer, self.uses_vec, self.words = set(), set(), False, {}
 
     def refuse(self, line, what):
         raise Unknown(self.file, line, what)
@@ -47,6 +49,10 @@ class Eraser:
             node = nodes[at]
             if isinstance(node, Group):
                 out.append(Group(node.open, self.code(node.inner), node.line, node.end))
+            elif is_word(node, "let") and (end := self.let_else(nodes, at)):
+                out.extend(self.code(self.matched(nodes[at + 1:end])))
+                at = end
+                continue
             elif is_word(node):
                 at = self.word(nodes, at, out)
                 continue
@@ -57,6 +63,26 @@ class Eraser:
             at += 1
         return out
 
+    @staticmethod
+    def let_else(nodes, at):
+        """Where `let .. = .. else {}` ends, before its `;`; None where none begins here."""
+        end = next((k for k in range(at, len(nodes)) if is_mark(nodes[k], ";")), None)
+        words = solid(nodes[at:end]) if end else []
+        is_one = len(words) > 4 and is_group(words[-1], "{") and is_word(words[-2], "else") and not is_group(words[-3], "{")
+        return end if is_one else None
+
+    def matched(self, nodes):
+        """`let .. = .. else {}` as a `match`, since Rust has it only from 1.65 on."""
+        at = next(k for k, node in enumerate(nodes) if is_mark(node, "="))
+        begin = max(k for k, node in enumerate(nodes) if is_word(node, "else"))
+        pattern, block = solid(nodes[:at]), nodes[-1]
+        bound = [node for node in solid(pattern[-1].inner) if not is_word(node, "mut")] if len(pattern) == 2 and is_group(pattern[1], "(") else []
+        if len(bound) != 1 or not is_word(bound[0]):
+            self.refuse(block.line, "a `let .. else` of another pattern than `Name(name)`")
+        name = bound[0].text
+        arms = [word(f" {pattern[0]}({name}) => {name}, _ => "), block, word(" ")]
+        return [word(f"let {text(pattern[1].inner)} = match"), *nodes[at + 1:begin], Group("{", arms, block.line, block.end)]
+
     def word(self, nodes, at, out):
         """Puts what stands for a word of code, and gives where to go on."""
         node, before = nodes[at], solid(out[-6:])[-1:]
@@ -64,6 +90,10 @@ class Eraser:
         is_field = bool(before) and is_mark(before[0], ".")
         if node.text in self.forms:
             self.refuse(node.line, f"`{node}` begins a form that isn't known here")
+        if is_field and node.text in NEWER:
+            self.newer.add(NEWER[node.text][0])
+            out.append(word(NEWER[node.text][1], node.line))
+            return at + 1
         if node.text == "clone" and is_field and len(behind) > 1 and is_group(behind[0], "(") and is_mark(behind[1], "?"):
             out.extend([node, behind[0]])
             return next(k for k in range(at, len(nodes)) if nodes[k] is behind[1]) + 1
@@ -301,9 +331,13 @@ class Eraser:
             if is_word(words[0], "pub"):
                 words = words[1:]
             if not is_word(words[0], "ghost"):
-                kept += self.code(self.bounds(piece)) + [Token("mark", ",", 0)]
+                kept += self.code(self.bounds([self.within(node) for node in piece])) + [Token("mark", ",", 0)]
         end = [node for node in body.inner[-1:] if is_trivia(node)]
         return kept + end
+
+    def within(self, node):
+        """`(crate)` behind a field's `pub`, which means its crate."""
+        return Group("(", [word(f"in {self.home}")], node.line, node.end) if is_group(node, "(") and str(node) == "(crate)" else node
 
     def write_enum(self, item, _outer):
         body, texts = [], []

@@ -1,24 +1,46 @@
 """Loops over whole elements, so written that rustc needs no test of an index in each pass.
 
-The kit's compiler knows by the proof that an index lies in the memory; rustc tests each. In a loop
+The kit's compiler knows by the proof that an index lies in the memory; rustc tests each. Three forms of loops
 
     for step in 0..count {
         .. cells.load(first + step) ..
+        .. act.whole::<O>(left, first + step, other); ..
+        .. f::<O, C>(cells, first + step * block, ..) ..
     }
 
-over an accessor `cells`, which calls nothing else of it, all passes stay within `count` elements. So the loop goes over an
-accessor of just these, whose length rustc knows, where `cells` can give one, and is as it was else."""
+stay within `count` elements, or blocks of elements, of an accessor, if they use it in no other way. So the loop goes over an
+accessor of just these, whose length rustc knows, where `cells` can give one, and is as it was else. A loop that acts by
+`whole` is handed to the act as a closure that makes the elements, since only the act knows which accessors it takes."""
+import dataclasses
+
 from tokens import Group, Token, is_group, is_mark, is_word, solid, text
 
 READS, WRITES, WORDS = ("load", "load_word"), ("store", "store_word"), ("load_word", "store_word")
 
-# What accessors have for this, by the trait, and by the type that an impl is for.
+# How an act goes over whole elements: of an accessor of just these.
+WHOLES = """
+    #[inline(always)]
+    fn wholes<O: BitOrder>(&mut self, cells: &mut C, first: usize, count: usize, mut other: impl FnMut(usize) -> C::Elem) {
+        match cells.%s(first, count) {
+            Some(mut cells) => (0..count).for_each(|step| Act::<crate::proved::cells::%s<'_, C::Elem>>::whole::<O>(self, &mut cells, step, other(step))),
+            None => (0..count).for_each(|step| self.whole::<O>(cells, first + step, other(step))),
+        }
+    }
+"""
+# What accessors and acts have for this, by the trait, and by the type that an impl is for.
 ADDED = {
     ("CellsRead", None): """
     /// An accessor of `count` elements from the element `first` on, if this one can give it.
     #[doc(hidden)]
     #[inline(always)]
     fn narrowed(&mut self, _first: usize, _count: usize) -> Option<crate::proved::cells::Shared<'_, Self::Elem>> {
+        None
+    }
+
+    /// Accessors of `count` blocks of `size` elements from the element `first` on, if this one can give them.
+    #[doc(hidden)]
+    #[inline(always)]
+    fn blocks(&mut self, _first: usize, _count: usize, _size: usize) -> Option<crate::blocks::Blocks<'_, Self::Elem>> {
         None
     }
 """,
@@ -35,11 +57,21 @@ ADDED = {
     fn narrowed(&mut self, first: usize, count: usize) -> Option<Shared<'_, T>> {
         Some(Shared::new(&self.cells[first..first + count]))
     }
+
+    #[inline(always)]
+    fn blocks(&mut self, first: usize, count: usize, size: usize) -> Option<crate::blocks::Blocks<'_, T>> {
+        Some(crate::blocks::Blocks::new(&self.cells[first..first + count * size], size))
+    }
 """,
     ("CellsRead", "Exclusive"): """
     #[inline(always)]
     fn narrowed(&mut self, first: usize, count: usize) -> Option<crate::proved::cells::Shared<'_, T>> {
         Some(crate::proved::cells::Shared::new(&self.cells[first..first + count]))
+    }
+
+    #[inline(always)]
+    fn blocks(&mut self, first: usize, count: usize, size: usize) -> Option<crate::blocks::Blocks<'_, T>> {
+        Some(crate::blocks::Blocks::new(&self.cells[first..first + count * size], size))
     }
 """,
     ("Cells", "Exclusive"): """
@@ -48,6 +80,14 @@ ADDED = {
         Some(Exclusive::new(&mut self.cells[first..first + count]))
     }
 """,
+    ("Act", None): """
+    /// Acts on `count` whole elements from the element `first` on, each with what `other` makes for its number.
+    #[doc(hidden)]
+    fn wholes<O: BitOrder>(&mut self, cells: &mut C, first: usize, count: usize, other: impl FnMut(usize) -> C::Elem);
+""",
+    ("Act", "Put"): WHOLES % ("narrowed_mut", "Exclusive"),
+    ("Act", "Apply"): WHOLES % ("narrowed_mut", "Exclusive"),
+    ("Act", "Differ"): WHOLES % ("narrowed", "Shared"),
 }
 
 
@@ -63,14 +103,12 @@ def accessors(item, pieces):
 
 
 def narrowed(nodes, names):
-    """Code whose loops over whole elements of one of the accessors are narrowed."""
+    """Code whose loops over whole elements of the accessors are narrowed."""
     made, at = [], 0
     while at < len(nodes):
-        loop = loop_at(nodes, at)
-        if loop:
-            end, step, count, body = loop
-            made += written(nodes[at:end], step, count, body, names) or [*nodes[at:end - 1], Group("{", in_blocks(body.inner, names, step), 0, 0)]
-            at = end
+        if loop := Loop.at(nodes, at):
+            made += loop.written(names) or [*nodes[at:loop.end - 1], Group("{", narrowed(loop.body.inner, names), 0, 0)]
+            at = loop.end
         else:
             node = nodes[at]
             made.append(Group(node.open, narrowed(node.inner, names), node.line, node.end) if is_group(node) else node)
@@ -78,34 +116,9 @@ def narrowed(nodes, names):
     return made
 
 
-def loop_at(nodes, at):
-    """A loop `for step in 0..count {}` that begins here: where it ends, its variable, how often it runs, and its body."""
-    end = next((k for k in range(at, len(nodes)) if is_group(nodes[k], "{")), None) if is_word(nodes[at], "for") else None
-    if end is None:
-        return None
-    words = solid(nodes[at:end])
-    if len(words) < 7 or not is_word(words[1]) or not is_word(words[2], "in") or str(words[3]) != "0" or not (is_mark(words[4], ".") and is_mark(words[5], ".")):
-        return None
-    return end + 1, words[1].text, text(words[6:]), nodes[end]
-
-
-def written(loop, step, count, body, names):
-    """A loop as it is written, or nothing where it isn't of this form."""
-    found = {it.text for it in words_in(body.inner) if it.text in names}
-    if len(found) != 1:
-        return None
-    (name,) = found
-    calls = []
-    inner = replaced(body.inner, name, step, calls)
-    if inner is None or len({(first, times) for _, first, times in calls}) != 1:
-        return None
-    (first, times), kinds = calls[0][1:], {kind for kind, _, _ in calls}
-    if any(kind in WORDS for kind in kinds) != bool(times):
-        return None
-    narrow = "narrowed_mut" if kinds & set(WRITES) else "narrowed"
-    head = f"if let Some(mut {name}) = {name}.{narrow}({first}, ({count}){' * ' + times if times else ''}) {{ for {step} in 0..{count} "
-    space = Token("space", " ", 0)
-    return [Token("space", head, 0), Group("{", inner, 0, 0), Token("space", " } else ", 0), Group("{", [space, *loop, space], 0, 0)]
+def code(words):
+    """Words as one node."""
+    return Token("space", words, 0)
 
 
 def words_in(nodes):
@@ -114,6 +127,111 @@ def words_in(nodes):
             yield from words_in(node.inner)
         elif is_word(node):
             yield node
+
+
+@dataclasses.dataclass
+class Acting:
+    """A loop's call of an act by `whole`: the act, the call of `wholes`, the accessor, the first element, and what makes an element."""
+
+    act: str
+    call: list
+    left: str
+    first: str
+    inner: list
+
+
+class Loop:
+    """A loop `for step in 0..count {}`."""
+
+    def __init__(self, nodes, end, step, count):
+        self.nodes, self.end, self.step, self.count, self.body = nodes, end, step, count, nodes[-1]
+
+    @classmethod
+    def at(cls, nodes, at):
+        """The loop that begins here; None where none does."""
+        end = next((k for k in range(at, len(nodes)) if is_group(nodes[k], "{")), None) if is_word(nodes[at], "for") else None
+        words = solid(nodes[at:end]) if end else []
+        if len(words) < 7 or not is_word(words[1]) or not is_word(words[2], "in") or str(words[3]) != "0" or not (is_mark(words[4], ".") and is_mark(words[5], ".")):
+            return None
+        return cls(nodes[at:end + 1], end + 1, words[1].text, text(words[6:]))
+
+    def uses(self, nodes, *names):
+        return any(it.text in names for it in words_in(nodes))
+
+    def written(self, names):
+        """The loop as it is written, or nothing where it has none of the forms."""
+        inner, acting = self.body.inner, self.acting()
+        if acting:
+            inner = acting.inner
+            if self.uses(inner, acting.act, acting.left):
+                return None
+        heads, binds = [], []
+        for name in names:
+            if self.uses(inner, name) and (made := self.by_elements(inner, name)):
+                inner, head, bind = made
+                heads.append(head)
+                binds.append(bind)
+        if acting:
+            arguments = code(f"{acting.left}, {acting.first}, {self.count}, |{self.step}| ")
+            loop = [*acting.call, Group("(", [arguments, Group("{", inner, 0, 0)], 0, 0), code(";")]
+        elif heads:
+            loop = [code(f"for {self.step} in 0..{self.count} "), Group("{", inner, 0, 0)]
+        else:
+            return self.by_blocks(names)
+        if not heads:
+            return loop
+        return [code(f"if 0 < {self.count} {{ match ({', '.join(heads)},) {{ ({', '.join(binds)},) => {{ "), *loop, code(" } _ => "),
+                Group("{", [code(" "), *self.nodes, code(" ")], 0, 0), code(" } }")]
+
+    def acting(self):
+        """The statement `act.whole::<O>(left, first + step, other);` of the body, if it has one."""
+        inner = self.body.inner
+        at = next((k for k in range(2, len(inner)) if is_word(inner[k], "whole") and is_mark(inner[k - 1], ".") and is_word(inner[k - 2])), None)
+        group = next((k for k in range(at, len(inner)) if is_group(inner[k])), None) if at else None
+        parts = cut(inner[group].inner) if group and is_mark(inner[group + 1], ";") else []
+        place = placed(Group("(", parts[1], 0, 0), self.step) if len(parts) == 3 else None
+        if not place or place[1]:
+            return None
+        call = [*inner[at - 2:at], Token("word", "wholes", 0), *inner[at + 1:group]]
+        made = [*inner[:at - 2], code("let value = "), *solid(parts[2]), code(";"), *inner[group + 2:], code("    value\n")]
+        return Acting(inner[at - 2].text, call, text(solid(parts[0])), place[0], made)
+
+    def by_elements(self, inner, name):
+        """Code that goes over an accessor of just the loop's elements: the code, that accessor, and what binds it; None where
+        another use of the accessor stands in it."""
+        calls = []
+        made = replaced(inner, name, self.step, calls)
+        if made is None or len({call[1:] for call in calls}) != 1:
+            return None
+        (first, times), kinds = calls[0][1:], {kind for kind, _, _ in calls}
+        if any(kind in WORDS for kind in kinds) != bool(times):
+            return None
+        narrow = "narrowed_mut" if kinds & set(WRITES) else "narrowed"
+        return made, f"{name}.{narrow}({first}, {f'({self.count}) * {times}' if times else self.count})", f"Some(mut {name})"
+
+    def by_blocks(self, names):
+        """The loop over blocks, in which functions are handed an accessor of the block of a pass; None where it isn't of this form."""
+        found = {it.text for it in words_in(self.body.inner) if it.text in names}
+        if len(found) != 1:
+            return None
+        (name,), places = found, []
+        inner = in_blocks(self.body.inner, name, names[name], self.step, places)
+        if len(set(places)) != 1 or places[0] is None:
+            return None
+        first, size = places[0]
+        return [code(f"if let Some(each_block) = {name}.blocks({first}, {self.count}, {size}) {{ for ({self.step}, mut {name}) in each_block.enumerate() "),
+                Group("{", inner, 0, 0), code(" } else "), Group("{", [code(" "), *self.nodes, code(" ")], 0, 0)]
+
+
+def cut(nodes):
+    """Nodes, cut at the commas."""
+    pieces = [[]]
+    for node in nodes:
+        if is_mark(node, ","):
+            pieces.append([])
+        else:
+            pieces[-1].append(node)
+    return pieces
 
 
 def replaced(nodes, name, step, calls):
@@ -145,35 +263,36 @@ def replaced(nodes, name, step, calls):
 
 
 def placed(group, step):
-    """The first element and the factor of an argument `first + step` or `first + step * factor`, and where it ends."""
+    """The first element and the factor of an argument `first + step`, `first + step + 1` or `first + step * factor`, and where it ends."""
     end = next((k for k, node in enumerate(group.inner) if is_mark(node, ",")), len(group.inner))
-    words = text(solid(group.inner[:end]))
-    first, plus, behind_plus = words.partition("+")
-    variable, _, factor = behind_plus.partition("*")
-    if not plus or variable != step or not first.replace(".", "").replace("_", "").isalnum() or factor and not factor.isidentifier():
+    first, *rest = text(solid(group.inner[:end])).split("+")
+    variable, _, factor = rest[0].partition("*") if rest else ("", "", "")
+    if variable != step or not first.replace(".", "").replace("_", "").isalnum() or factor and not factor.isidentifier():
         return None
-    return first, factor, end
+    if len(rest) > 2 or rest[1:] and (factor or not rest[1].isdigit()):
+        return None
+    return " + ".join([first, *rest[1:]]), factor, end
 
 
-def in_blocks(nodes, names, step):
-    """The body of a loop, in which a function is handed an accessor of the block of a pass."""
+def in_blocks(nodes, name, kind, step, places):
+    """The body of a loop whose calls of functions with the block of a pass take an accessor of that block, and all else as it is. `places` gets
+    the first element and the size of each block, and None for another use of the accessor."""
     made, at = [], 0
     while at < len(nodes):
         node = nodes[at]
         end = called(nodes, at) if is_word(node) else None
         group = nodes[end] if end else None
         comma = next((k for k, it in enumerate(group.inner) if is_mark(it, ",")), None) if group else None
-        name = text(solid(group.inner[:comma])) if comma else ""
-        place = placed(Group("(", group.inner[comma + 1:], 0, 0), step) if name in names else None
+        place = placed(Group("(", group.inner[comma + 1:], 0, 0), step) if comma and text(solid(group.inner[:comma])) == name else None
         if place and place[1]:
-            first, factor, behind = place
-            rest = group.inner[comma + 1 + behind:]
-            kinds = [Token("word", "_", 0) if is_word(it, names[name]) else it for it in nodes[at:end]]
-            made += [Token("space", f"match {name}.narrowed({first} + {step} * {factor}, {factor}) {{ Some(mut {name}) => ", 0), *kinds,
-                     Group("(", [Token("space", f"&mut {name}, 0", 0), *rest], 0, 0), Token("space", ", None => ", 0), *nodes[at:end + 1], Token("space", " }", 0)]
+            places.append(place[:2])
+            made += [Token("word", "_", 0) if is_word(it, kind) else it for it in nodes[at:end]]
+            made.append(Group("(", [code(f"&mut {name}, 0"), *group.inner[comma + 1 + place[2]:]], 0, 0))
             at = end + 1
             continue
-        made.append(Group(node.open, in_blocks(node.inner, names, step), node.line, node.end) if is_group(node) else node)
+        if is_word(node, name):
+            places.append(None)
+        made.append(Group(node.open, in_blocks(node.inner, name, kind, step, places), node.line, node.end) if is_group(node) else node)
         at += 1
     return made
 

@@ -219,7 +219,8 @@ class Package:
             return f"pub mod {name} {{\n{docs}\n{rows}}}\n"
         function = self.function(crate, last)
         tested = "tested::" if function and self.is_tested(function) else ""
-        return f"{gate}{hidden}pub use {home}::{tested}{path}{tail};\n"
+        old = "#[allow(deprecated)]\n" if function and function.has_attribute("deprecated") else ""
+        return f"{gate}{hidden}{old}pub use {home}::{tested}{path}{tail};\n"
 
     def lib(self, crate):
         return self.parsed[crate][pathlib.Path("lib.rt")][1]
@@ -260,6 +261,7 @@ class Package:
             imports.append(f"use {memory}::Vec;\n")
         if "try_extend(" in written and ".try_extend(" in written:
             imports.append(f"use {memory}::TryExtend;\n")
+        imports += [f"use crate::older::{name};\n" for name in sorted(eraser.newer)]
         written = Package.imported(written, "".join(imports))
         return re.sub(r"\n{3,}", "\n\n", re.sub(r"[ \t]+\n", "\n", written)).strip() + "\n"
 

@@ -8,7 +8,6 @@ that adds or multiplies, as a `u128`; `#name` is how many items the list of a ho
 COUNTS = [
     ("map ?value ?list", "#list"),
     ("?cells.numbers ?list", "{list}.len()"),
-    ("numbers ?list", "{list}.len()"),
     ("?list", "{list}.len()"),
 ]
 
@@ -19,7 +18,6 @@ TERMS = [
     ("length (held self)", "self.len()", "len"),
     ("length (numbers self)", "self.len()", "len"),
     ("length (Self.numbers self)", "self.len()", "len"),
-    ("length (?cells.numbers ?list)", "{list}.len()", "{list}.len"),
     ("length ?list", "#list", "{list}.len"),
     ("vec_len ?list", "#list", "{list}.len"),
     ("N", "N", "N"),
@@ -48,7 +46,6 @@ CONDITIONS = [
     ("HasSpan ?b ?left ?right ?to ?from", "crate::conditions::has_window({b}, #left, {to}) && crate::conditions::has_window({b}, #right, {from}) && {to}.len == {from}.len", "{to} and {from} lie in their elements and are as long"),
     ("HasPair ?b ?left ?to ?c ?right ?from", "crate::conditions::has_window({b}, #left, {to}) && crate::conditions::has_window({c}, #right, {from}) && {to}.len == {from}.len", "{to} and {from} lie in their elements and are as long"),
     ("HasShortWindow ?b ?list ?window", "crate::conditions::has_window({b}, #list, {window}) && 0 < {window}.len && {window}.len <= {b}", "{window} lies in the elements and has from 1 bit to the width"),
-    ("FitsMaxBits ?b ?list", "crate::conditions::has_bits({b}, #list, 0, 0)", "the elements have at most MAX_BITS bits"),
     ("FitsWithin ?from ?to ?dest ?len", "crate::conditions::fits_within({from}, {to}, {dest}, {len})", "{from} <= {to} <= {len}, and as many bits fit from {dest} on"),
     ("HasRoom ?b ?count ?from ?to ?dest", "crate::conditions::has_bits({b}, {count}, {from}, {to}) && crate::conditions::fits_within({from}, {to}, {dest}, {b} * {count})", "{from} <= {to} <= the bits of the elements, and as many fit from {dest} on"),
     ("All (λ field. field.0 ≤ ?most) ?row", "{row}.iter().all(|field| field.0 <= {most})", "each width of {row} is at most {most}"),
@@ -70,7 +67,7 @@ CONDITIONS = [
 ]
 
 # What Rust's own types and its borrow checker grant.
-NOTHING = ("MayAsk", "MayGoOnIn", "MayGoOn", "CallableBelow", "CallableOnBits", "always_mut")
+NOTHING = ("MayGoOnIn", "MayGoOn", "CallableBelow", "CallableOnBits", "always_mut")
 # What a closure owes that edits a view, tested each time that it has been called: that the view stands where it did.
 STAYS = {"MayEdit": "stays", "MayEditEach": "each_stays", "MayEditGiven": "each_stays"}
 

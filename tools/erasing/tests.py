@@ -24,10 +24,6 @@ LEFT_OUT = {
     ("bitvec_top_tests", "checked_operations"): "of the functions for C, which the package hasn't",
     ("bitvec_top_tests", "checked_runs"): "of the functions for C",
 }
-# Tests that aren't written, and why.
-TESTS_LEFT_OUT = {
-    ("bitvec_iter_tests", "pieces", "a_clone_walks_alone_and_remainders_are_left"): "a view is moved while a walk borrows it, which rustc refuses",
-}
 # Files that stand in bindings/rust/tests in place of the erased ones.
 BY_HAND = {("bitvec_test_support", "refusing"): "refusing.rs"}
 # Tests of the package by hand.
@@ -154,14 +150,12 @@ class Tests:
             tester.renames = tester.tests = False
             eraser = TestEraser(file, home, paths, tester, rattle, memory)
             eraser.macros |= macros
-            items = [item for item in items if not self.is_left_out(crate, stem, item)]
+            items = [item for item in items if not self.is_left_out(crate, item)]
             written = Package.finished(eraser, items, memory)
             target.write_text(Package.imported(written, f"use {rattle}::*;\n"))
         return name
 
     @staticmethod
-    def is_left_out(crate, stem, item):
-        if item.kind == "fn" and (crate, stem, item.name) in TESTS_LEFT_OUT:
-            return True
+    def is_left_out(crate, item):
         first = next((node.text for node in solid(item.head) if is_word(node)), "")
         return item.kind in ("mod", "use") and (crate, first) in LEFT_OUT

@@ -20,8 +20,10 @@
 #[cfg(feature = "alloc")]
 extern crate alloc;
 
+mod blocks;
 mod conditions;
 pub mod memory;
+mod older;
 #[allow(dead_code, deprecated, missing_docs, private_interfaces, unused_imports, unused_mut, unused_parens, unused_variables, clippy::all)]
 mod proved;
 mod traits;
