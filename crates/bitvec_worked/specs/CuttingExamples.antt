@@ -1,6 +1,7 @@
 -- Ways to cut a list at values.
 use Rattle.std.specs.Prelude.{◌≡◌, true, false, [], ◌∷◌, refl}
-use Rattle.bitvec_cutting.specs.Cutting.{back_chunk, chunk, chunk_count, cut, left_before, left_behind, whole_chunk, whole_count, window, window_count}
+use Rattle.bitvec.specs.Cutting.{back_chunk, chunk, chunk_count, cut, left_before, left_behind, whole_chunk, whole_count, window, window_count}
+use Rattle.bitvec.specs.PieceWalks.{chunks_of, cut_all, walk}
 
 pub cut-1 : cut (false ∷ false ∷ true ∷ false ∷ true ∷ []) (record { start = 2; end = 4 }) ≡ true ∷ false ∷ []
 cut-1 = refl
@@ -31,3 +32,12 @@ left_behind-1 = refl
 
 pub left_before-1 : left_before 3 8 ≡ record { start = 0; end = 2 }
 left_before-1 = refl
+
+-- the windows of two values
+pub cut_all-1 : cut_all (window_count 2) (window 2) (true ∷ false ∷ true ∷ []) ≡ (true ∷ false ∷ []) ∷ (false ∷ true ∷ []) ∷ []
+unfolding walk
+cut_all-1 = refl
+
+pub chunks_of-1 : chunks_of 2 (true ∷ false ∷ true ∷ []) ≡ (true ∷ false ∷ []) ∷ (true ∷ []) ∷ []
+unfolding walk
+chunks_of-1 = refl

@@ -1,7 +1,10 @@
 -- The words on lists at values.
-use Rattle.std.specs.Prelude.{◌≡◌, ◌&&◌, true, false, Some, [], ◌∷◌, refl}
-use Rattle.bitvec_base.specs.Lists.{combined, copied_within, first_place, is_prefix, is_suffix, last_place, places_of, rotated_left, rotated_right, same_bits, shifted_end, shifted_start, stands_at, stands_in}
-use Rattle.bitvec_base.specs.Window.{write_at}
+use Rattle.std.specs.Prelude.{◌≡◌, ◌&&◌, ◌||◌, true, false, Some, [], ◌∷◌, refl}
+use Rattle.bitvec.specs.Combined.{combined_within}
+use Rattle.bitvec.specs.Counts.{ones_of, zeros_of}
+use Rattle.bitvec.specs.Lists.{combined, copied_within, differs, first_place, is_prefix, is_suffix, last_place, places_of, rotated_left, rotated_right, same_bits, shifted_end, shifted_start, stands_at, stands_in}
+use Rattle.bitvec.specs.Swaps.{swapped_within}
+use Rattle.bitvec.specs.Window.{write_at}
 
 pub same_bits-1 : same_bits (true ∷ false ∷ []) (true ∷ false ∷ false ∷ []) ≡ false
 same_bits-1 = refl
@@ -57,3 +60,21 @@ shifted_end-1 = refl
 pub copied_within-1 : copied_within 0 2 1 (true ∷ false ∷ false ∷ false ∷ []) ≡ true ∷ true ∷ false ∷ false ∷ []
 unfolding copied_within write_at
 copied_within-1 = refl
+
+pub ones_of-1 : ones_of (true ∷ false ∷ true ∷ []) ≡ 2
+ones_of-1 = refl
+
+pub zeros_of-1 : zeros_of (true ∷ false ∷ true ∷ []) ≡ 1
+zeros_of-1 = refl
+
+pub differs-1 : differs true false ≡ true
+differs-1 = refl
+
+-- the ranges may overlap: each source is as it was before
+pub combined_within-1 : combined_within (λ a b. a || b) 0 2 1 (true ∷ false ∷ false ∷ []) ≡ true ∷ true ∷ false ∷ []
+unfolding combined_within combined write_at
+combined_within-1 = refl
+
+pub swapped_within-1 : swapped_within 0 2 3 (true ∷ true ∷ false ∷ false ∷ true ∷ []) ≡ false ∷ true ∷ false ∷ true ∷ true ∷ []
+unfolding swapped_within write_at
+swapped_within-1 = refl
