@@ -24,10 +24,20 @@ class Refused(Exception):
 
 def libraries():
     """The crates below `bitvec`, lowest first."""
-    for line in (TOP / "crates.txt").read_text().splitlines():
-        if line.startswith("bitvec:"):
-            return line.split(":")[1].split()
-    raise Refused("crates.txt has no line `bitvec:`")
+    lines = [line for line in (TOP / "crates.txt").read_text().splitlines() if not line.startswith("#")]
+    below = {name: names.split() for name, _, names in (line.partition(":") for line in lines)}
+    if "bitvec" not in below:
+        raise Refused("crates.txt has no line `bitvec:`")
+    found = []
+
+    def add_below(crate):
+        for name in below[crate]:
+            if name in below and name not in found:
+                add_below(name)
+                found.append(name)
+
+    add_below("bitvec")
+    return found
 
 
 def crates_of(pattern):

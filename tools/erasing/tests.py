@@ -27,7 +27,7 @@ LEFT_OUT = {
 # Files that stand in bindings/rust/tests in place of the erased ones.
 BY_HAND = {("bitvec_test_support", "refusing"): "refusing.rs"}
 # Tests of the package by hand.
-BESIDE = ("conditions", "random", "golden", "readme")
+BESIDE = ("conditions", "random", "walks", "golden", "readme")
 MACROS = erase.MACROS + ("vec", "format")
 
 

@@ -1,5 +1,7 @@
-//! Random calls on windows of a memory beside a plain list of truth values: six widths, three orders, a million calls in all.
+//! Random calls on windows of a memory and on sequences, beside a plain list of truth values: six widths, three orders, a
+//! million calls in all.
 
+use fehimbary::memory::Global;
 use fehimbary::prelude::*;
 use std::fmt::Debug;
 
@@ -37,6 +39,18 @@ fn list<T: BitStore, O: BitOrder>(elements: &[T]) -> Vec<bool> {
     let width = T::BITS as usize;
     let bit = |place: usize| elements[place / width].to_u128() >> O::at::<T>(place % width) & 1 == 1;
     (0..elements.len() * width).map(bit).collect()
+}
+
+/// Combines bits with others, by one operator a number.
+fn combine(kind: usize, bits: &mut [bool], others: impl IntoIterator<Item = bool>) {
+    for (bit, other) in bits.iter_mut().zip(others) {
+        match kind {
+            0 => *bit &= other,
+            1 => *bit |= other,
+            2 => *bit ^= other,
+            _ => *bit &= !other,
+        }
+    }
 }
 
 /// An edit of a view, and of its list.
@@ -96,22 +110,34 @@ fn edit<T: BitStore, O: SliceOrder>(drawn: &mut Drawn, view: &mut BitSliceMut<'_
             view.part_mut(0..count).copy_from_bitslice(beside.into_part(0..count));
             bits[..count].copy_from_slice(&other[..count]);
         }
-        kind @ 11..=13 => {
-            let pairs = bits.iter_mut().zip(other.iter().copied().chain(std::iter::repeat(false)));
+        11 => {
+            let kind = drawn.below(4);
             match kind {
-                11 => {
-                    view.and_bits(beside);
-                    pairs.for_each(|(bit, other)| *bit &= other);
-                }
-                12 => {
-                    *view |= beside;
-                    pairs.for_each(|(bit, other)| *bit |= other);
-                }
-                _ => {
-                    *view ^= beside;
-                    pairs.for_each(|(bit, other)| *bit ^= other);
-                }
+                0 => view.and_bits(beside),
+                1 => *view |= beside,
+                2 => *view ^= beside,
+                _ => view.and_not_bits(beside),
             }
+            let others = other.iter().copied().chain(std::iter::repeat(false));
+            combine(kind, bits, others);
+        }
+        12 => {
+            let (kind, range) = (drawn.below(4), drawn.range(len));
+            let dest = drawn.below(len - range.len() + 1);
+            match kind {
+                0 => view.and_within(range.clone(), dest),
+                1 => view.or_within(range.clone(), dest),
+                2 => view.xor_within(range.clone(), dest),
+                _ => view.and_not_within(range.clone(), dest),
+            }
+            let source = bits[range.clone()].to_vec();
+            combine(kind, &mut bits[dest..dest + range.len()], source);
+        }
+        13 => {
+            let count = by / 2;
+            view.swap_within(0..count, len - count);
+            let (front, back) = bits.split_at_mut(len - count);
+            front[..count].swap_with_slice(back);
         }
         _ => {
             let size = 1 + drawn.below(9);
@@ -168,7 +194,9 @@ fn windows<T: BitStore + Debug + PartialEq, O: SliceOrder>(seed: u64, number: Nu
     let mut drawn = Drawn(seed);
     let mut element = |drawn: &mut Drawn| T::from_u128((u128::from(drawn.next()) << 64 | u128::from(drawn.next())) & T::ALL.to_u128());
     for call in 0..CALLS {
-        let mut elements: Vec<T> = (0..1 + drawn.below(4)).map(|_| element(&mut drawn)).collect();
+        // narrow elements are as many as some words hold
+        let most = (130 / T::BITS as usize).max(4);
+        let mut elements: Vec<T> = (0..1 + drawn.below(most)).map(|_| element(&mut drawn)).collect();
         let other: Vec<T> = (0..2).map(|_| element(&mut drawn)).collect();
         let (mut bits, other_bits) = (list::<T, O>(&elements), list::<T, O>(&other));
         let (range, beside) = (drawn.range(bits.len()), drawn.range(other_bits.len()));
@@ -188,13 +216,14 @@ fn windows<T: BitStore + Debug + PartialEq, O: SliceOrder>(seed: u64, number: Nu
     }
 }
 
-/// A sequence that grows and shrinks.
+/// A sequence that grows and shrinks, from the index 3 of its first element on.
 fn sequence<T: BitStore, O: SliceOrder>(seed: u64) -> Result<(), AllocError> {
     let mut drawn = Drawn(seed);
-    let (mut bits, mut list) = (BitVec::<T, O>::new(), Vec::new());
+    let mut bits = BitSlice::<T, O>::from_slice(&[T::ALL]).into_part(3..7).to_bitvec(Global)?;
+    let mut list = vec![true; 4];
     for _ in 0..CALLS / 4 {
         let (bit, index) = (drawn.bit(), drawn.below(list.len() + 1));
-        match drawn.below(10) {
+        match drawn.below(17) {
             0..=3 => {
                 bits.push(bit)?;
                 list.push(bit);
@@ -205,15 +234,40 @@ fn sequence<T: BitStore, O: SliceOrder>(seed: u64) -> Result<(), AllocError> {
                 list.insert(index, bit);
             }
             6 if index < list.len() => assert_eq!(bits.remove(index), list.remove(index)),
-            7 => {
+            7 if index < list.len() => assert_eq!(bits.swap_remove(index), list.swap_remove(index)),
+            8 => {
                 let len = drawn.below(200);
                 bits.resize(len, bit)?;
                 list.resize(len, bit);
             }
-            8 => {
+            9 => {
                 let more: Vec<bool> = (0..drawn.below(70)).map(|_| drawn.bit()).collect();
                 bits.extend(&more);
+                bits.extend_from_bools(&more)?;
                 list.extend(&more);
+                list.extend(&more);
+            }
+            10 => {
+                let words = [drawn.next(), drawn.next()];
+                bits.extend_from_bitslice(BitSlice::<u64, Msb0>::from_slice(&words).into_part(17..93))?;
+                list.extend((17..93).map(|place| words[place / 64] >> (63 - place % 64) & 1 == 1));
+            }
+            11 => {
+                bits.truncate(index);
+                bits.shrink_to_fit();
+                list.truncate(index);
+            }
+            12 => {
+                bits.retain(|place, bit| *bit || place % 3 == 0);
+                let mut places = 0..;
+                list.retain(|bit| places.next().is_some_and(|place: usize| place % 3 == 0) || *bit);
+            }
+            13 => {
+                let mut rest = bits.split_off(index)?;
+                rest.append(&mut bits)?;
+                bits.append(&mut rest)?;
+                list.rotate_left(index);
+                assert!(rest.is_empty());
             }
             _ => {
                 let range = drawn.range(list.len());
@@ -222,6 +276,10 @@ fn sequence<T: BitStore, O: SliceOrder>(seed: u64) -> Result<(), AllocError> {
             }
         }
         assert!(bits.iter().by_vals().eq(list.iter().copied()));
+        // just the elements that the bits touch, with zeros around these
+        let elements = bits.as_raw_slice();
+        assert_eq!(elements.len(), (bits.window().start + list.len()).div_ceil(T::BITS as usize));
+        assert_eq!(elements.view_bits::<O>().count_ones(), bits.count_ones());
     }
     Ok(())
 }

@@ -36,6 +36,7 @@ use Rattle.bitvec.specs.OwnViewsLaws.{bits-all, bits-front, bits-range}
 use Rattle.bitvec.specs.ListNumbersLaws.{bits_in-rest, bits_in-set, range-rest, segment-front, segment-push}
 use Rattle.bitvec.specs.FlagLaws.{flag-back, flag-below, flag-fits, flag-same, flag-told}
 use Rattle.bitvec.specs.PlacedLaws.{length-places, length-zero_places, nth-below, nth-bit, nth-count, nth-place, nth-rank, places-and, places-and_not, places-append, places-ascend, places-below, places-bit, places-cleared, places-cons, places-count, places-flipped, places-have, places-nil, places-none, places-ones, places-or, places-ordered, places-set, places-xor, places-zeros}
+use Rattle.bitvec.specs.RowsLaws.{remainder-whole, row-first, row-rest}
 use Rattle.bitvec.specs.SeamlessLaws.{loaded-seamless, number-seamless, numbered-put, numbered-seamless, stored-seamless}
 use Rattle.bitvec_segments.specs.NumberLaws.{segment-number, segment-told, segment_number-below}
 use Rattle.bitvec.specs.ClosureLaws.{callable_below-always, callable_on_bits-always}
@@ -132,8 +133,9 @@ pub ruleset bitwise = (lengths, kept_lengths, listed, ranged)
 -- This set closes goals about the number of a range: it was stored there, lies beside an edit, or is below `2^(to - from)`; and flags.
 pub ruleset fields = (lengths, kept_lengths, numbers, number-unchanged, length-stored, width_some, flags)
 
--- This set closes goals about what cursors wrote: each number, bit and list stands where it was put, and all else is as before; and flags.
-pub ruleset cursors = (lengths, written_by, width_some, flags)
+-- This set closes goals about what cursors wrote: each number, of a row too, bit and list stands where it was put, and all else is as
+-- before; and flags.
+pub ruleset cursors = (lengths, written_by, row-first, row-rest, remainder-whole, width_some, flags)
 
 -- This set closes goals about a stored number by its bits and parts, from its other end, or moved, and about a filled range's number.
 pub ruleset portions = (lengths, kept_lengths, parts, width_some)

@@ -13,6 +13,7 @@ pub mod Operators
 pub mod OwnViews
 pub mod OwnViewsLaws
 pub mod PlacedLaws
+pub mod RowsLaws
 pub mod SeamlessLaws
 pub mod Types
 pub use Rattle.bitvec_base.specs.BitsFixMemory

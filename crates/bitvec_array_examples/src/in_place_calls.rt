@@ -44,7 +44,8 @@ fn exchanged() -> ([u8; 2], [u8; 1]) {
     (bytes, other)
 }
 
-/// The bytes after an edit: those that move the bits 2 up to 12, and those that combine the bits 2 up to 8 with 1, 0, 1.
+/// The bytes after an edit: those that move the bits 2 up to 12, those that combine the bits 2 up to 8 with 1, 0, 1, and one
+/// that combines the bits 8 up to 12 with 1, 0, 1, 0.
 fn after(edit: u8) -> [u8; 2] {
     let mut bytes = [0x2Fu8, 0x0C];
     let other = BitSlice::<u8, Msb0>::from_slice(&[0xA0]).into_part(0..3);
@@ -55,6 +56,8 @@ fn after(edit: u8) -> [u8; 2] {
         3 => in_place::shift_end::<u8, Lsb0>(&mut bytes, 2..12, 3),
         4 => in_place::and_bits::<u8, Lsb0, u8, Msb0>(&mut bytes, 2..8, other),
         5 => in_place::or_bits::<u8, Lsb0, u8, Msb0>(&mut bytes, 2..8, other),
+        6 => in_place::and_not_bits::<u8, Lsb0, u8, Msb0>(&mut bytes, 2..8, other),
+        7 => in_place::and_not_within::<u8, Lsb0>(&mut bytes, 3..7, 8),
         _ => in_place::xor_bits::<u8, Lsb0, u8, Msb0>(&mut bytes, 2..8, other),
     }
     bytes
@@ -126,7 +129,9 @@ fn a_range_is_moved_and_combined(rt: HostRuntime) {
         (3, [0x63, 0x01]),
         (4, [0x07, 0x0C]),
         (5, [0x3F, 0x0C]),
-        (6, [0x3B, 0x0C]),
+        (6, [0x2B, 0x0C]),
+        (7, [0x2F, 0x08]),
+        (8, [0x3B, 0x0C]),
     ] {
         assert!(rt; after(edit) == bytes, "edit {edit}");
     }

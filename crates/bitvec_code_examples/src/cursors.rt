@@ -94,7 +94,7 @@ pub fn take_record(bytes: &[u8], width: u32) -> Result<(bool, u16), CursorError>
     Ok((flag, reader.take(width)?))
 }
 
-/// Writes a record and reads it: the flag is what was written.
+/// Writes a record and reads it: the flag and the number are what was written.
 #[tactic(auto, using(bitvec::specs::Laws::cursors))]
 pub fn record_trip(
     bytes: &mut [u8],
@@ -105,7 +105,8 @@ pub fn record_trip(
     requires fits { 8 * length bytes.old ≤ max_bits }
     requires few { width ≤ 16 }
     requires valid { number < 2 ^ width }
-    ensures { IfOk result (λ taken. taken.0 ≡ flag) }
+    ensures flag { IfOk result (λ taken. taken.0 ≡ flag) }
+    ensures number { IfOk result (λ taken. taken.1 ≡ number) }
 {
     put_record(bytes, flag, number, width, BitSlice::from_slice(&[0xA0]))?;
     take_record(bytes, width)

@@ -1,5 +1,5 @@
 //! Callers of `bitvec` as codecs, maps and containers need it: numbers of ranges side by side, what was found in place, the
-//! front of an array, cursors, flags, sets of numbers, and types of one's own that edit and are asked.
+//! front of an array, cursors, headers, flags, sets of numbers, and types of one's own that edit and are asked.
 #![tactic(auto)]
 
 #[cfg(test)]
@@ -10,6 +10,8 @@ mod flags;
 mod found;
 #[cfg(test)]
 mod fronts;
+#[cfg(test)]
+mod headers;
 #[cfg(test)]
 mod number_sides;
 #[cfg(test)]

@@ -67,6 +67,10 @@ fn edit_five(bytes: &mut [u8; 1], kind: usize) {
         14 => {
             let _old = five.replace(1, false);
         }
+        15 => five.and_within(0..3, 2),
+        16 => five.or_within(0..3, 2),
+        17 => five.xor_within(1..4, 2),
+        18 => five.and_not_within(0..3, 2),
         _ => {
             let _old = five.replace_unchecked(4, false);
         }
@@ -92,7 +96,11 @@ fn five_bits_are_edited(rt: HostRuntime) {
         (12, 0xF1, 0xF8),
         (13, 0xF8, 0xFB),
         (14, 0xFB, 0xF9),
-        (15, 0xF9, 0xE9),
+        (15, 0xF2, 0xE2),
+        (16, 0xF2, 0xFA),
+        (17, 0xF2, 0xF6),
+        (18, 0xF5, 0xE1),
+        (19, 0xF9, 0xE9),
     ] {
         let mut bytes = [before];
         edit_five(&mut bytes, kind);

@@ -26,5 +26,3 @@ mod refusals;
 mod repeats;
 #[cfg(test)]
 mod transfers;
-#[cfg(test)]
-mod within;

@@ -1,9 +1,8 @@
-//! Numbers in views and in their chunks.
+//! Numbers in views.
 ghost use Rattle.std.specs.Prelude.{◌≤◌};
 
 use bitvec_base::{Lsb0, Msb0};
 use bitvec_field::{BitField, BitFieldMut, Integral};
-use bitvec_iter::PieceCallsMut;
 use bitvec_segments::FieldOrder;
 use bitvec_slice::{BitSlice, BitSliceMut};
 
@@ -75,39 +74,4 @@ fn integers_of_each_type_keep_their_lowest_bits(rt: HostRuntime) {
     assert!(rt; through_seven_bits::<i8>(-50) == -50 && through_seven_bits::<i16>(-50) == -50);
     assert!(rt; through_seven_bits::<i32>(-50) == -50 && through_seven_bits::<i64>(-50) == -50);
     assert!(rt; through_seven_bits::<i128>(-50) == -50 && through_seven_bits::<isize>(-50) == -50);
-}
-
-/// A number for each chunk of five bits.
-const NUMBERS: [u8; 8] = [0, 4, 8, 12, 16, 20, 24, 28];
-
-/// Stores a number in a chunk of five bits, the first segment highest, and gives what it held: all ones if it has
-/// fewer bits.
-fn exchange_number(mut chunk: BitSliceMut<'_, u8, Msb0>, number: u8) -> u8 {
-    if chunk.len() != 5 {
-        return 0xFF;
-    }
-    let held = chunk.load_be::<u8>();
-    chunk.store_be::<u8>(number);
-    held
-}
-
-/// Stores the numbers in the chunks of five bits, and gives what these held.
-fn store_numbers(elements: &mut [u8; 5]) -> [u8; 8] {
-    let mut view = BitSliceMut::<u8, Msb0>::from_slice_mut(elements);
-    let mut chunks = view.chunks_mut(5);
-    let mut held = [0xFF; 8];
-    for index in 0..8 {
-        if let Some(chunk) = chunks.next_mut() {
-            held[index] = exchange_number(chunk, NUMBERS[index]);
-        }
-    }
-    held
-}
-
-#[test]
-fn chunks_of_five_bits_hold_their_numbers(rt: HostRuntime) {
-    let mut elements = [0u8; 5];
-    assert!(rt; store_numbers(&mut elements) == [0; 8]);
-    assert!(rt; elements == [0x01, 0x10, 0xC8, 0x53, 0x1C]);
-    assert!(rt; store_numbers(&mut elements) == NUMBERS);
 }

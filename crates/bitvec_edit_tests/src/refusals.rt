@@ -2,7 +2,7 @@
 
 use bitvec_base::Lsb0;
 use bitvec_owned::{BitVec, RepeatError, ToBitVec};
-use bitvec_slice::{BitSlice, BitSliceMut};
+use bitvec_slice::BitSlice;
 use bitvec_test_support::Refusing;
 use std::alloc::{AllocError, Global};
 
@@ -18,11 +18,6 @@ const THREE_COPIES: [u8; 45] = [0x4B; 45];
 
 type Refused<'a> = BitVec<u8, Lsb0, &'a Refusing<Global>>;
 
-/// One request, for so many bytes, and none refused.
-fn asked_once(refusing: &Refusing<Global>, bytes: u64) -> bool {
-    refusing.granted() == 1 && refusing.bytes() == bytes && refusing.granted_all()
-}
-
 /// Whether one request was made: granted for a sequence of these elements, or refused with this error.
 fn asks_once<E: PartialEq + Drop>(
     made: Result<Refused<'_>, E>,
@@ -32,34 +27,27 @@ fn asks_once<E: PartialEq + Drop>(
 ) -> bool {
     match made {
         Ok(bits) => {
-            bits.as_raw_slice() == elements && asked_once(refusing, elements.len() as u64)
+            let (granted, bytes) = (refusing.granted(), refusing.bytes());
+            bits.as_raw_slice() == elements
+                && (granted, bytes) == (1, elements.len() as u64)
+                && refusing.granted_all()
         }
         Err(error) => error == *refusal && refusing.granted() == 0 && refusing.refused() == 1,
     }
 }
 
-/// Whether a copy of the bits asks once.
-fn copy_asks_once(refusing: &Refusing<Global>) -> bool {
+/// Whether a copy of the bits asks once, and a repeat.
+fn copy_and_repeat_ask_once(one: &Refusing<Global>, other: &Refusing<Global>) -> [bool; 2] {
     let view = BitSlice::<u8, Lsb0>::from_slice(&BYTES).into_part(4..124);
-    asks_once(view.to_bitvec(refusing), refusing, &COPY, &AllocError)
-}
-
-/// As above, for a writable view, by the old name of a copy.
-fn old_copy_asks_once(refusing: &Refusing<Global>) -> bool {
-    let mut bytes = BYTES;
-    let view = BitSliceMut::<u8, Lsb0>::from_slice_mut(&mut bytes).into_part(4..124);
-    asks_once(view.to_vec(refusing), refusing, &COPY, &AllocError)
-}
-
-/// Whether a repeat asks once.
-fn repeat_asks_once(refusing: &Refusing<Global>) -> bool {
-    let view = BitSlice::<u8, Lsb0>::from_slice(&BYTES).into_part(4..124);
-    asks_once(
-        view.repeat(refusing, 3),
-        refusing,
-        &THREE_COPIES,
-        &RepeatError::Memory,
-    )
+    [
+        asks_once(view.to_bitvec(one), one, &COPY, &AllocError),
+        asks_once(
+            view.repeat(other, 3),
+            other,
+            &THREE_COPIES,
+            &RepeatError::Memory,
+        ),
+    ]
 }
 
 /// Whether a copy and its clone ask for memory once each, the first so many requests being granted.
@@ -102,11 +90,9 @@ fn bits_ask_once(refusing: &Refusing<Global>, copies: usize) -> bool {
 #[test]
 fn copies_repeats_and_clones_ask_once(rt: HostRuntime) {
     for granted in 0..3 {
-        if granted < 2 {
-            assert!(rt; copy_asks_once(&Refusing::new(rt.alloc(), granted)));
-            assert!(rt; old_copy_asks_once(&Refusing::new(rt.alloc(), granted)));
-            assert!(rt; repeat_asks_once(&Refusing::new(rt.alloc(), granted)));
-        }
+        let one = Refusing::new(rt.alloc(), granted);
+        let other = Refusing::new(rt.alloc(), granted);
+        assert!(rt; copy_and_repeat_ask_once(&one, &other) == [true; 2]);
         assert!(rt; clone_asks_once(&Refusing::new(rt.alloc(), granted), granted));
     }
 }

@@ -7,8 +7,6 @@ mod accessors;
 #[cfg(test)]
 mod block_costs;
 #[cfg(test)]
-mod blocks;
-#[cfg(test)]
 mod elements;
 #[cfg(test)]
 mod orders;

@@ -4,10 +4,10 @@ use bitvec_edit::BitEdits;
 use bitvec_iter::PieceCallsMut;
 use bitvec_slice::BitSliceMut;
 
-/// Sets the first bit of each chunk of three, by turns from both ends, by the calls that give no `Option`.
+/// Sets the first bit of each chunk of four, by turns from both ends, by the calls that give no `Option`.
 fn set_first_bits(bytes: &mut [u8; 1]) {
-    let mut view = BitSliceMut::<u8, Lsb0>::from_slice_mut(bytes);
-    let mut chunks = view.chunks_mut(3);
+    let mut view = BitSliceMut::<u8, Msb0>::from_slice_mut(bytes);
+    let mut chunks = view.chunks_exact_mut(4);
     for number in 0..chunks.len() {
         if chunks.is_empty() {
             break;
@@ -61,15 +61,6 @@ fn set_left_over(view: &mut BitSliceMut<'_, u8, Lsb0>) {
     rest.fill(true);
 }
 
-/// Sets the second of the two chunks of four bits.
-fn set_second(bytes: &mut [u8; 1]) {
-    let mut view = BitSliceMut::<u8, Msb0>::from_slice_mut(bytes);
-    let mut chunks = view.chunks_exact_mut(4);
-    if let Some(mut chunk) = chunks.nth_mut(1) {
-        chunk.fill(true);
-    }
-}
-
 #[test]
 fn chunks_and_a_remainder_are_taken(rt: HostRuntime) {
     let mut first_bits = [0x00];
@@ -77,7 +68,5 @@ fn chunks_and_a_remainder_are_taken(rt: HostRuntime) {
     let mut bytes = [0x00];
     assert!(rt; set_remainder(&mut bytes) == [2, 2, 0, 3, 0]);
     set_left_over(&mut BitSliceMut::from_slice_mut(&mut bytes));
-    let mut second = [0x00];
-    set_second(&mut second);
-    assert!(rt; [first_bits, bytes, second] == [[0x49], [0xC3], [0x0F]]);
+    assert!(rt; [first_bits, bytes] == [[0x88], [0xC3]]);
 }

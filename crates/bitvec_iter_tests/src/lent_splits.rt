@@ -1,36 +1,14 @@
 //! Writable splits of bits at ones, whose pieces are lent, and flipped. Of the bits 3 up to 21 of three bytes
 //! twelve are called for, some past the end: then the pieces, how often the predicate was asked, and the bytes
 //! are those of the plain list, whose ones stay.
-
 ghost use Rattle.std.specs.Prelude.{◌*◌, ◌≤◌, length};
 ghost use Rattle.bitvec_base.specs.Window.{max_bits};
 
-use bitvec_base::{BitOrder, Lsb0};
+use bitvec_base::{BitOrder, Lsb0, Msb0};
 use bitvec_slice::BitSliceMut;
 use bitvec_split::SplitCallsMut;
 use bitvec_store::BitStore;
 use bitvec_test_support::MEMORIES;
-
-/// Flips the first pieces between ones, some from the front and then one from the back, and gives how
-/// many bits they have.
-fn flip_between<T: BitStore, O: BitOrder>(elements: &mut [T], front: usize) -> usize
-    requires { T.BITS * length elements.old ≤ max_bits }
-{
-    let mut view = BitSliceMut::<T, O>::from_slice_mut(elements);
-    let mut pieces = view.split_mut(|_, bit| *bit);
-    let mut bits = 0usize;
-    for _ in 0..front {
-        if let Some(piece) = pieces.next_mut() {
-            bits = bits.wrapping_add(piece.len());
-            let _flipped = !piece;
-        }
-    }
-    if let Some(piece) = pieces.next_back_mut() {
-        bits = bits.wrapping_add(piece.len());
-        let _flipped = !piece;
-    }
-    bits
-}
 
 /// Flips what a call lends, and notes how many bits it has, and one more, as two digits.
 fn flip_lent(noted: u128, piece: Option<BitSliceMut<'_, u8, Lsb0>>) -> u128 {
@@ -44,23 +22,25 @@ fn flip_lent(noted: u128, piece: Option<BitSliceMut<'_, u8, Lsb0>>) -> u128 {
     }
 }
 
-/// Flips the first piece with the one at its end, and gives how many bits it has, and one more.
-fn flip_inclusive(elements: &mut [u8; 1]) -> u128 {
-    let mut view = BitSliceMut::<u8, Lsb0>::from_slice_mut(elements);
-    let mut pieces = view.split_inclusive_mut(|_, bit| *bit);
-    flip_lent(0, pieces.next_mut())
+/// Flips the first piece between ones.
+fn flip_first<T: BitStore, O: BitOrder>(elements: &mut [T])
+    requires { T.BITS * length elements.old ≤ max_bits }
+{
+    let mut view = BitSliceMut::<T, O>::from_slice_mut(elements);
+    let mut pieces = view.split_mut(|_, bit| *bit);
+    if let Some(piece) = pieces.next_mut() {
+        let _flipped = !piece;
+    }
 }
 
-/// How many pieces an inclusive split of no bits may lend, which come from either end, and how often its predicate is
-/// asked, which says yes.
-fn split_nothing(bytes: &mut [u8; 1]) -> ((usize, Option<usize>), u128, usize) {
-    let (mut noted, mut asked) = (0, 0usize);
-    let mut view = BitSliceMut::<u8, Lsb0>::from_slice_mut(bytes).into_part(3..3);
-    let mut pieces = view.split_inclusive_mut(|_index, _bit| {
-        asked = asked.wrapping_add(1);
-        true
-    });
+/// How many pieces an inclusive split of so many bits may lend, and what comes from the front and then from the back.
+fn split_inclusively(bytes: &mut [u8; 1], len: usize) -> ((usize, Option<usize>), u128)
+    requires { len ≤ 8 }
+{
+    let mut view = BitSliceMut::<u8, Lsb0>::from_slice_mut(bytes).into_part(0..len);
+    let mut pieces = view.split_inclusive_mut(|_, bit| *bit);
     let hint = pieces.size_hint();
+    let mut noted = 0;
     for from_back in [false, true] {
         noted = if from_back {
             flip_lent(noted, pieces.next_back_mut())
@@ -68,7 +48,7 @@ fn split_nothing(bytes: &mut [u8; 1]) -> ((usize, Option<usize>), u128, usize) {
             flip_lent(noted, pieces.next_mut())
         };
     }
-    (hint, noted, asked)
+    (hint, noted)
 }
 
 /// Calls a split twelve times, at even and at odd calls from the back or not. Gives what came, and how often the
@@ -113,14 +93,16 @@ fn limited_pieces_by_next_mut(rt: HostRuntime) {
     }
 }
 
-// The bits are 0, 1, 0, 0, 1, 0, 1, 0.
+// The bits are 0, 1, 0, 0, 1, 0, 1, 0: the first piece is 0, 1, and the last is 0.
 #[test]
 fn an_inclusive_split_lends_a_piece_with_its_one_and_none_of_no_bits(rt: HostRuntime) {
     let mut bytes = [0x52];
-    assert!(rt; split_nothing(&mut bytes) == ((0, Some(0)), 0, 0) && bytes == [0x52]);
-    assert!(rt; flip_inclusive(&mut bytes) == 3 && bytes == [0x51]);
+    assert!(rt; split_inclusively(&mut bytes, 0) == ((0, Some(0)), 0) && bytes == [0x52]);
+    let (_hint, noted) = split_inclusively(&mut bytes, 8);
+    assert!(rt; noted == 03_02 && bytes == [0xD1]);
     let mut elements = [0x52];
-    assert!(rt; flip_between::<u8, Lsb0>(&mut elements, 2) == 4 && elements == [0xDF]);
+    flip_first::<u8, Msb0>(&mut elements);
+    assert!(rt; elements == [0xD2]);
 }
 
 // By `next_mut`, by `next_back_mut` and by both in turn. Each bit is asked about once.

@@ -7,15 +7,11 @@ mod bits;
 #[cfg(test)]
 mod by_value;
 #[cfg(test)]
-mod ends;
-#[cfg(test)]
 mod halves;
 #[cfg(test)]
 mod lent_bits;
 #[cfg(test)]
 mod lent_chunks;
-#[cfg(test)]
-mod lent_ended;
 #[cfg(test)]
 mod lent_next;
 #[cfg(test)]
@@ -26,7 +22,5 @@ mod pieces;
 mod shown;
 #[cfg(test)]
 mod splits;
-#[cfg(test)]
-mod splits_ended;
 #[cfg(test)]
 mod walked;

@@ -18,39 +18,27 @@ fn forward<C: Cutting>(mut pieces: Pieces<'_, u8, Msb0, C>) -> [Read; 4] {
     given
 }
 
-/// What `nth_back`, `next_back` and `next` give.
-fn backward<C: Cutting>(mut pieces: Pieces<'_, u8, Msb0, C>, skipped: usize) -> [Read; 3] {
-    let given = read(pieces.nth_back(skipped));
-    [given, read(pieces.next_back()), read(pieces.next())]
-}
-
-/// What `nth`, `next_back`, `next` and `next_back` give of three chunks.
-fn by_turns(skipped: usize) -> [Read; 4] {
-    let mut chunks = BitSlice::<u8, Msb0>::from_slice(&[0x17]).chunks(3);
-    let given = read(chunks.nth(skipped));
-    let last = read(chunks.next_back());
-    [given, last, read(chunks.next()), read(chunks.next_back())]
+/// What `nth`, `nth_back`, `next` and `next_back` give.
+fn from_both_ends<C: Cutting>(mut pieces: Pieces<'_, u8, Msb0, C>) -> [Read; 4] {
+    [
+        read(pieces.nth(1)),
+        read(pieces.nth_back(0)),
+        read(pieces.next()),
+        read(pieces.next_back()),
+    ]
 }
 
 #[test]
-fn pieces_in_order(rt: HostRuntime) {
+fn pieces_in_order_and_from_both_ends(rt: HostRuntime) {
     let view = BitSlice::<u8, Msb0>::from_slice(&[0x17]);
     let from_the_end = [Some((3, 7)), Some((3, 2)), Some((2, 0)), None];
     assert!(rt; forward(view.rchunks(3)) == from_the_end);
     let whole = [Some((3, 7)), Some((3, 2)), None, None];
     assert!(rt; forward(view.rchunks_exact(3)) == whole);
-    let of_five = [Some((3, 0)), Some((3, 1)), Some((3, 2)), None];
-    assert!(rt; forward(view.into_part(0..5).windows(3)) == of_five);
-}
-
-#[test]
-fn pieces_from_both_ends(rt: HostRuntime) {
-    let view = BitSlice::<u8, Msb0>::from_slice(&[0x17]);
-    assert!(rt; by_turns(1) == [Some((3, 5)), Some((2, 3)), None, None]);
-    assert!(rt; backward(view.chunks(3), 0) == [Some((2, 3)), Some((3, 5)), Some((3, 0))]);
-    assert!(rt; backward(view.rchunks_exact(3), 1) == [Some((3, 7)), None, None]);
+    assert!(rt; from_both_ends(view.chunks(3)) == [Some((3, 5)), Some((2, 3)), None, None]);
     let five = view.into_part(0..5);
-    assert!(rt; backward(five.windows(3), 1) == [Some((3, 1)), Some((3, 0)), None]);
+    assert!(rt; forward(five.windows(3)) == [Some((3, 0)), Some((3, 1)), Some((3, 2)), None]);
+    assert!(rt; from_both_ends(five.windows(3)) == [Some((3, 1)), Some((3, 2)), None, None]);
 }
 
 #[test]

@@ -1,4 +1,4 @@
-//! The pieces of splits, from both ends, how many may come, and which bits the predicate is asked about.
+//! The pieces of splits, from both ends, and how many may come.
 ghost use Rattle.std.specs.Iterator.{IsFinite};
 
 use bitvec_base::Lsb0;
@@ -42,72 +42,6 @@ fn place(piece: Option<BitSlice<'_, u8, Lsb0>>) -> Option<(usize, usize)> {
 /// Says yes at ones.
 fn is_one(_index: usize, bit: &bool) -> bool {
     *bit
-}
-
-/// The indices about which some pieces from the front ask a predicate that says yes at ones, as digits, each one
-/// greater.
-fn asked_in_front(view: BitSlice<'_, u8, Lsb0>, calls: usize) -> usize {
-    let mut asked = 0usize;
-    let mut pieces = view.split(|index, bit| {
-        asked = asked.wrapping_mul(10).wrapping_add(index).wrapping_add(1);
-        *bit
-    });
-    for _ in 0..calls {
-        let _piece = pieces.next();
-    }
-    asked
-}
-
-// The bits are 0, 1, 0, 0, 1.
-#[test]
-fn indices_begin_at_0_in_what_is_left(rt: HostRuntime) {
-    let view = BitSlice::<u8, Lsb0>::from_slice(&[0x90]).into_part(3..8);
-    for (calls, asked) in [(1, 12), (2, 12_123), (3, 12_123)] {
-        assert!(rt; asked_in_front(view, calls) == asked);
-    }
-}
-
-/// The places of the first six pieces of six zeros, from the front, or by turns from the front and the back, where
-/// the predicate says yes at each second asking.
-fn places_of_six(by_turns: bool) -> [Option<(usize, usize)>; 6] {
-    let mut asked = 0usize;
-    let view = BitSlice::<u8, Lsb0>::from_slice(&[0]).into_part(0..6);
-    let mut pieces = view.split(|_index, _bit| {
-        asked = asked.wrapping_add(1);
-        asked % 2 == 0
-    });
-    let mut places = [None; 6];
-    for call in 0..6 {
-        places[call] = if by_turns && call % 2 == 1 {
-            place(pieces.next_back())
-        } else {
-            place(pieces.next())
-        };
-    }
-    places
-}
-
-// The predicate is asked through its own states.
-#[test]
-fn the_predicate_is_asked_through_its_own_states(rt: HostRuntime) {
-    let front = [
-        Some((0, 1)),
-        Some((2, 1)),
-        Some((4, 1)),
-        Some((6, 0)),
-        None,
-        None,
-    ];
-    assert!(rt; places_of_six(false) == front);
-    let from_both_ends = [
-        Some((0, 1)),
-        Some((5, 1)),
-        Some((2, 1)),
-        Some((4, 0)),
-        None,
-        None,
-    ];
-    assert!(rt; places_of_six(true) == from_both_ends);
 }
 
 /// The view 0, 1, 0, 0, 1 over two elements.

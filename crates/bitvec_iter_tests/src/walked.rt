@@ -90,28 +90,6 @@ pub(crate) fn with_ones(bytes: [u8; 3], ones: [u8; 3]) -> [u8; 3] {
     [bytes[0] | ones[0], bytes[1] | ones[1], bytes[2] | ones[2]]
 }
 
-/// Whether a walk over chunks by a call that takes so many goes so over both memories, and sets these bits.
-fn sets_chunks(call: Call, taken: usize, wanted: [u8; 3]) -> bool {
-    for bytes in MEMORIES {
-        let mut after = bytes;
-        if !walks_over_chunks(&mut after, call, taken) || after != with_ones(bytes, wanted) {
-            return false;
-        }
-    }
-    true
-}
-
-/// Whether a walk over bits leaves the wanted bytes.
-fn sets_bits(call: Call, taken: usize, wanted: [u8; 3]) -> bool {
-    for bytes in MEMORIES {
-        let mut after = bytes;
-        if !walks_over_bits(&mut after, call, taken) || after != with_ones(bytes, wanted) {
-            return false;
-        }
-    }
-    true
-}
-
 // A call that passes one sets the second and the fourth of five chunks, and every second bit.
 #[test]
 fn chunks_and_bits_by_each_call(rt: HostRuntime) {
@@ -122,6 +100,11 @@ fn chunks_and_bits_by_each_call(rt: HostRuntime) {
         (Call::Nth, 2, [0x80, 0x87, 0x07], [0x50, 0x55, 0x15]),
         (Call::NthBack, 2, [0x80, 0x87, 0x07], [0xA8, 0xAA, 0x0A]),
     ] {
-        assert!(rt; sets_chunks(call, taken, chunks) && sets_bits(call, taken, bits));
+        for bytes in MEMORIES {
+            let (mut by_chunks, mut by_bits) = (bytes, bytes);
+            assert!(rt; walks_over_chunks(&mut by_chunks, call, taken));
+            assert!(rt; walks_over_bits(&mut by_bits, call, taken));
+            assert!(rt; by_chunks == with_ones(bytes, chunks) && by_bits == with_ones(bytes, bits));
+        }
     }
 }

@@ -1,10 +1,8 @@
 //! What tests share: an accessor that tallies its calls as it runs, an allocator that refuses, readers and writers
-//! that give little or fail, three bytes as a plain list of bits, walks that are called past their end, and what
-//! values print.
+//! that give little or fail, three bytes as a plain list of bits, and what values print.
 #![tactic(auto)]
 
 mod counted;
-mod ends;
 mod memory;
 pub mod refusing;
 pub mod streams;
@@ -26,7 +24,6 @@ pub mod store {
 }
 
 pub use counted::Counted;
-pub use ends::stays_ended_at_both;
 pub use memory::{MEMORIES, bits_of, flipped};
 pub use refusing::Refusing;
 pub use streams::{FailingReader, FailingWriter, OneByteReader};

@@ -7,45 +7,28 @@ use bitvec_edit::BitEdits;
 use bitvec_slice::{BitSliceIndex, BitSliceMut};
 use bitvec_test_support::{MEMORIES, bits_of, flipped};
 
-/// Flips the bits 5 up to 9.
-fn flip_part(bytes: &mut [u8; 3]) {
+/// Flips what a call gives: the bits 5 up to 9, the bit 15, or the bits 13 up to 18.
+fn flip_given(bytes: &mut [u8; 3], kind: usize) {
     let view = BitSliceMut::<u8, Lsb0>::from_slice_mut(bytes).into_part(3..21);
-    let mut part = view.into_part(5..9);
-    part.invert();
-}
-
-/// Flips the bit 15.
-fn flip_bit(bytes: &mut [u8; 3]) {
-    let view = BitSliceMut::<u8, Lsb0>::from_slice_mut(bytes).into_part(3..21);
-    let mut bit = view.into_bit(15);
-    let old = *bit;
-    bit.set(!old);
-}
-
-/// Flips the bits 13 up to 18.
-fn flip_range(bytes: &mut [u8; 3]) {
-    let view = BitSliceMut::<u8, Lsb0>::from_slice_mut(bytes).into_part(3..21);
-    let mut part = (13..18).index_mut(view);
-    part.invert();
-}
-
-/// Whether a call of this number gives the bits from one place up to another, and all else stays.
-fn gives(kind: usize, from: usize, to: usize) -> bool {
-    for bytes in MEMORIES {
-        let mut after = bytes;
-        match kind {
-            0 => flip_part(&mut after),
-            1 => flip_bit(&mut after),
-            _ => flip_range(&mut after),
+    match kind {
+        0 => view.into_part(5..9).invert(),
+        1 => {
+            let mut bit = view.into_bit(15);
+            let old = *bit;
+            bit.set(!old);
         }
-        if bits_of(after) != flipped(bytes, from, to) {
-            return false;
-        }
+        _ => (13..18).index_mut(view).invert(),
     }
-    true
 }
 
+// Each call by its number gives the bits from one place of the bytes up to another.
 #[test]
 fn what_is_given_leaves_the_other_elements(rt: HostRuntime) {
-    assert!(rt; gives(0, 8, 12) && gives(1, 18, 19) && gives(2, 16, 21));
+    for bytes in MEMORIES {
+        for (kind, from, to) in [(0, 8, 12), (1, 18, 19), (2, 16, 21)] {
+            let mut after = bytes;
+            flip_given(&mut after, kind);
+            assert!(rt; bits_of(after) == flipped(bytes, from, to), "{kind}");
+        }
+    }
 }

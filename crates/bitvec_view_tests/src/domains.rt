@@ -1,10 +1,9 @@
-//! Domains: the elements that a view touches, and views cut at the edges of elements; and walks over these past their ends.
+//! Domains: the elements that a view touches, and views cut at the edges of elements.
 
 use bitvec_base::{Lsb0, Msb0};
 use bitvec_domain::Domain;
 use bitvec_edit::BitEdits;
 use bitvec_slice::{BitDomain, BitSlice, BitSliceMut};
-use bitvec_test_support::stays_ended_at_both;
 
 /// How many bits the one part has of a range that touches neither edge of its element, or else 0 and how many the
 /// head, the body and the tail have; nothing where there is no such range.
@@ -75,28 +74,6 @@ fn flip_each_part(elements: &mut [u8; 3]) {
     for mut part in view.bit_domain_mut() {
         part.invert();
     }
-}
-
-/// Whether walks over the elements of a domain give nothing behind their end.
-fn values_stay_ended(view: BitSlice<'_, u8, Lsb0>) -> bool {
-    let (mut values, mut other_values) = (view.domain().values(), view.domain().values());
-    let is_over = stays_ended_at_both(&mut values, &mut other_values);
-    let mut values = view.domain().values();
-    is_over && values.nth(usize::MAX).is_none() && values.next_back().is_none()
-}
-
-/// Whether walks over the parts of a domain of bits give nothing behind their end.
-fn parts_stay_ended(view: BitSlice<'_, u8, Lsb0>) -> bool {
-    let (mut parts, mut other_parts) = (view.bit_domain().parts(), view.bit_domain().parts());
-    let is_over = stays_ended_at_both(&mut parts, &mut other_parts);
-    let mut parts = view.bit_domain().parts();
-    is_over && parts.nth(usize::MAX).is_none() && parts.next_back().is_none()
-}
-
-#[test]
-fn nothing_comes_behind_the_end_of_a_domain(rt: HostRuntime) {
-    let view = BitSlice::<u8, Lsb0>::from_slice(&[0xFF, 0x12, 0xFF]).into_part(4..20);
-    assert!(rt; [values_stay_ended(view), parts_stay_ended(view)] == [true; 2]);
 }
 
 /// The value, the indices and the mask of the part of an element that a view is.

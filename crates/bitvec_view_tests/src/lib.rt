@@ -23,8 +23,6 @@ mod lent_domains;
 #[cfg(test)]
 mod ones;
 #[cfg(test)]
-mod ones_ended;
-#[cfg(test)]
 mod ones_turns;
 #[cfg(test)]
 mod ones_written;
@@ -36,5 +34,3 @@ mod references;
 mod scans;
 #[cfg(test)]
 mod shown;
-#[cfg(test)]
-mod split_apart;

@@ -61,12 +61,8 @@ fn pair_of_bits<R: Abort>(rt: &R, view: BitSlice<'_, u8, Lsb0>) -> Result<(), &'
 }
 
 #[test]
-fn a_pair_of_bits_is_read_by_get_and_brackets(rt: HostRuntime) {
-    assert!(rt; pair_of_bits(&rt, five_bits(&[0x12])).is_ok());
-}
-
-#[test]
 fn bits_and_ranges_are_there_by_index(rt: HostRuntime) {
+    assert!(rt; pair_of_bits(&rt, five_bits(&[0x12])).is_ok());
     let view = BitSlice::<u8, Lsb0>::from_slice(&[0x12]);
     assert!(rt; *4.index(view) && (2..).index(view).len() == 6 && !*view.get_unchecked(3));
     assert!(rt; BitSliceIndex::<BitSlice<u8, Lsb0>>::fits(&2, 3));

@@ -1,6 +1,4 @@
 //! Searches of a view, and comparisons of two.
-ghost use Rattle.std.specs.Prelude.{◌*◌, ◌≤◌, length};
-ghost use Rattle.bitvec_base.specs.Window.{max_bits};
 
 use bitvec_base::{Lsb0, Msb0};
 use bitvec_engine::SliceOrder;
@@ -43,39 +41,6 @@ fn answers(view: BitSlice<'_, u8, Lsb0>) -> [bool; 5] {
 fn places_of_two(element: u8) -> [Option<usize>; 4] {
     let mut elements = [element; 2];
     places(&BitSliceMut::<u8, Msb0>::from_slice_mut(&mut elements))
-}
-
-/// Where the first 1 of the bits `from` up to `to` and one more is, if none of them but the last is one.
-fn one_behind<T: BitStore, O: SliceOrder>(elements: &[T], from: usize, to: usize) -> Option<usize>
-    requires { T.BITS * length elements.now ≤ max_bits }
-{
-    let view = BitSlice::<T, O>::from_slice(elements);
-    if view.get(from..to)?.first_one().is_some() {
-        return None;
-    }
-    view.get(from..to.wrapping_add(1))?.first_one()
-}
-
-#[test]
-fn a_one_behind_the_last_bit_is_not_found(rt: HostRuntime) {
-    let (mut bytes, mut words) = ([0u8; 34], [0u64; 6]);
-    let (mut halves, mut pairs) = ([0u16; 18], [0u128; 4]);
-    (bytes[0], halves[0], words[0], pairs[0]) = (16, 16, 16, 16);
-    (bytes[33], halves[17], words[5], pairs[3]) = (8, 8, 8, 8);
-    let found = [
-        one_behind::<_, Lsb0>(&bytes, 5, 267),
-        one_behind::<_, Msb0>(&bytes, 4, 268),
-        one_behind::<_, Lsb0>(&halves, 5, 275),
-        one_behind::<_, Msb0>(&halves, 12, 284),
-        one_behind::<_, Lsb0>(&words, 5, 323),
-        one_behind::<_, Msb0>(&words, 60, 380),
-        one_behind::<_, Lsb0>(&pairs, 5, 387),
-        one_behind::<_, Msb0>(&pairs, 124, 508),
-    ];
-    let wanted = [262, 264, 270, 272, 318, 320, 382, 384];
-    for index in 0..8 {
-        assert!(rt; found[index] == Some(wanted[index]));
-    }
 }
 
 /// Whether 0, 1, 0, 0, 1, 0, 1, 1, 0, 1 contains a part of 0, 1, 0, 1, 1 and eleven zeros, begins with it, and ends
@@ -161,6 +126,7 @@ fn bits_are_found_and_runs_are_counted(rt: HostRuntime) {
     let view = BitSlice::<u8, Lsb0>::from_slice(&[0x0B]).into_part(0..5);
     assert!(rt; runs(view) == [2, 0, 0, 1]);
     assert!(rt; places(&view) == [Some(0), Some(2), Some(3), Some(4)]);
+    assert!(rt; (view.count_ones_before(3), view.nth_one(2)) == (2, Some(3)));
     assert!(rt; answers(view) == [true, false, false, true, true]);
     assert!(rt; answers(BitSlice::empty()) == [false, true, true, false, false]);
     assert!(rt; places_of_two(0xFF) == [Some(0), None, Some(15), None]);

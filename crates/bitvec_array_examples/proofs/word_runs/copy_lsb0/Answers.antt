@@ -1,8 +1,0 @@
-use Rattle.bitvec.specs.WordRunsLaws.{copy-right_steps, copy-steps}
-use Rattle.bitvec_array_examples.proofs.word_runs.copy_lsb0.Goals as goal
-
-pub returns-clause-cost : goal.returns-clause-cost
-returns-clause-cost g c = copy-steps g.C.CellsRead g.D.CellsRead _ _ _ _ _ _ _ _ _ _ _ c.args.source g.met.C.Elem.BitStore.width_law c.in_ok-replies.ensures.runs
-
-pub returns-clause-right : goal.returns-clause-right
-returns-clause-right g c = copy-right_steps g.C.CellsRead g.D.CellsRead _ _ _ _ _ _ _ _ _ _ _ c.args.source g.met.C.Elem.BitStore.width_law c.in_ok-replies.ensures.runs
