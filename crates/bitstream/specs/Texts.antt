@@ -26,7 +26,7 @@ numeral_of digits =
     then Some (digits_value 10 digits) else None
 
 -- a plus may stand before the digits
-abbrev pub count_of : List ℕ → Option ℕ
+unfoldable pub count_of : List ℕ → Option ℕ
 count_of word = numeral_of (without_leading_plus word)
 
 -- a number that has a code: not 0

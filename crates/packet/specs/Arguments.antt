@@ -8,7 +8,7 @@ use Rattle.std.specs.Str.Parse.{digits_value}
 use Rattle.packet.specs.declared.arguments.Assignment.{Assignment}
 
 -- the number of a word of one or more digits, where it has at most 128 bits
-abbrev pub number_of : ℕ → List ℕ → Option ℕ
+unfoldable pub number_of : ℕ → List ℕ → Option ℕ
 number_of radix word =
     if nat_lt 0 (length word) && list_all (λ byte. is_digit byte radix) word && nat_lt (digits_value radix word) (2 ^ 128)
     then Some (digits_value radix word) else None

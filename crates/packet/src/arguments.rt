@@ -1,7 +1,5 @@
 //! The words after the program's name: assignments.
 ghost use Rattle.std.specs.Prelude.{◌≡◌, ◌<◌, ◌≤◌, ◌⊎◌, IfOk, IfErr, List, map, string_bytes};
-ghost use Rattle.std.specs.Char.{is_digit};
-ghost use Rattle.std.specs.List.{list_all};
 ghost use Rattle.std.specs.Option.{option_map};
 ghost use Rattle.packet.specs.Arguments.{AreAssignments, Named, assignment_of, named, number_of, value_of};
 
@@ -17,23 +15,15 @@ pub struct Assignment<'a> {
     pub value: u128,
 }
 
-/// Whether each byte is a digit. Condition: there are digits of the radix.
-fn has_digits(word: &str, radix: u32) -> bool
-    requires low { 2 ≤ radix }
-    requires high { radix ≤ 36 }
-    ensures { result ≡ list_all (λ byte. is_digit byte radix) word.now }
-{
-    word.bytes().all(|byte| (byte as char).is_digit(radix))
-}
-
-/// The number of a word of one or more digits. None, if the word is another one or its number has
-/// more than 128 bits. Condition: there are digits of the radix.
+/// The number of a word of one or more digits, without a plus. None, if the word is another one or its
+/// number has more than 128 bits. Condition: there are digits of the radix.
+#[tactic(auto, unfolding(crate::specs::Arguments::number_of))]
 fn parse_number(word: &str, radix: u32) -> Option<u128>
     requires low { 2 ≤ radix }
     requires high { radix ≤ 36 }
     ensures { result ≡ number_of radix word.now }
 {
-    if !has_digits(word, radix) {
+    if word.starts_with('+') {
         return None;
     }
     u128::from_str_radix(word, radix).ok()

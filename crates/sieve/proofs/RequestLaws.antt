@@ -1,24 +1,19 @@
 -- What the calls that read words give, in the definitions' words.
-use Rattle.std.proofs.Common.{◌≡◌, ℕ, ◌^◌, ◌<◌, ◌≤◌, true, List, [], ◌∷◌, length, get_or, None, Result, Ok, Err, refl, arith, rules}
-use Rattle.std.specs.Char.{is_ascii_digit}
-use Rattle.std.specs.List.{list_all}
-use Rattle.std.specs.Result.{result_ok}
-use Rattle.std.specs.Str.Parse.{ParsesUnsigned, digits_value}
+use Rattle.std.proofs.Common.{◌≡◌, ℕ, ◌^◌, ◌<◌, ◌≤◌, true, List, [], ◌∷◌, length, get_or, None, Result, Ok, Err, refl, arith}
+use Rattle.std.specs.Result.{OkIff, result_ok}
+use Rattle.std.specs.Str.{all_ascii_digits}
+use Rattle.std.specs.Str.Parse.{IsNumeral, digits_value}
 use Rattle.std.proofs.lemmas.Bool.Decides.{nat_tests}
-use Rattle.std.proofs.lemmas.Str.Parse.{IsDigitsTest, IsNumeralModel, numerals_by_value, parse_digits}
+use Rattle.std.proofs.lemmas.Str.Parse.{IsNumeralModel, numerals_by_value, tells_all_ascii_digits}
 use Rattle.sieve.specs.Requests.{number_of, request_of}
 
-tells_digits : IsDigitsTest (λ word. list_all is_ascii_digit word ≡ true)
-tells_digits = search rules
+own : IsNumeralModel (λ word. all_ascii_digits word ≡ true) (digits_value 10)
+own = numerals_by_value _ tells_all_ascii_digits
 
-own : IsNumeralModel (λ word. list_all is_ascii_digit word ≡ true) (digits_value 10)
-own = numerals_by_value _ tells_digits
-
-pub number_of-parse : {E : Type 0} (word : List ℕ) (r : Result ℕ E) → ParsesUnsigned 64 10 word r → list_all is_ascii_digit word ≡ true → result_ok r ≡ number_of word
-number_of-parse {E} word (Ok n) h digits =
-    let p : (0 < length word × (digits_value 10 word < 2 ^ 64)) × (n ≡ digits_value 10 word) = parse_digits own {E = E} 64 word (Ok n) h digits in
-    grind (arith, nat_tests)
-number_of-parse word (Err e) h digits = let p = parse_digits own 64 word (Err e) h digits in grind (arith, nat_tests)
+-- the number that is parsed of a word without a plus
+pub number_of-parse : {E : Type 0} (word : List ℕ) (r : Result ℕ E) → OkIff r (IsNumeral 10 word × (digits_value 10 word < 2 ^ 64)) (digits_value 10 word) → result_ok r ≡ number_of word
+number_of-parse word (Ok n) h = let digits = own.from word h.0.0.1 in grind (arith, nat_tests)
+number_of-parse word (Err e) h = let digits = own.to word in grind (arith, nat_tests, digits, h)
 
 -- two words, three, and any other number of them
 pub two : {A : Type 0} (xs : List A) (a b : A) → 2 ≤ length xs → length xs < 3 → a ≡ get_or xs 0 a → b ≡ get_or xs 1 b → xs ≡ a ∷ b ∷ []

@@ -1,9 +1,7 @@
 -- The words after the program's name.
 use Rattle.std.specs.Prelude.{ℕ, ◌^◌, ◌<◌, ◌&&◌, nat_lt, if◌then◌else◌, List, [], ◌∷◌, length, Option, Some, None, option_and_then, codes}
-use Rattle.std.specs.Char.{is_ascii_digit}
-use Rattle.std.specs.List.{list_all}
 use Rattle.std.specs.Option.{option_map}
-use Rattle.std.specs.Str.{bytes_eq}
+use Rattle.std.specs.Str.{all_ascii_digits, bytes_eq}
 use Rattle.std.specs.Str.Parse.{digits_value}
 use Rattle.sieve.specs.declared.request.Form.{Form}
 use Rattle.sieve.specs.declared.request.Form.TheVariants.{Count, Lines, Picture}
@@ -16,7 +14,7 @@ o >>= f = option_and_then f o
 -- a word of one or more decimal digits whose number fits 64 bits
 abbrev pub number_of : List ℕ → Option ℕ
 number_of word =
-    if nat_lt 0 (length word) && list_all is_ascii_digit word && nat_lt (digits_value 10 word) (2 ^ 64)
+    if nat_lt 0 (length word) && all_ascii_digits word && nat_lt (digits_value 10 word) (2 ^ 64)
     then Some (digits_value 10 word) else None
 
 -- a number above 0

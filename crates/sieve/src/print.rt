@@ -77,7 +77,7 @@ fn print_picture<T: BitStore, O: SliceOrder, W: Write>(
 
 /// Prints the primes below a number in a form, by their bits. Conditions: the view has as many, and
 /// they are those of the primes; a picture's width is above 0.
-fn print_form<T: BitStore, O: SliceOrder, W: Write>(
+pub(crate) fn print_form<T: BitStore, O: SliceOrder, W: Write>(
     output: &mut W,
     bits: BitSlice<'_, T, O>,
     form: Form,
@@ -92,19 +92,4 @@ fn print_form<T: BitStore, O: SliceOrder, W: Write>(
         Form::Lines => print_list(output, bits),
         Form::Picture(width) => print_picture(output, bits, width),
     }
-}
-
-/// Prints it, and then flushes the output.
-pub(crate) fn print_primes<T: BitStore, O: SliceOrder, W: Write>(
-    output: &mut W,
-    bits: BitSlice<'_, T, O>,
-    form: Form,
-) -> io::Result<()>
-    requires primes { (seen bits).bits ≡ prime_bits (seen bits).window.len }
-    requires width { HasWidth form }
-    ensures { OnOk result (Appends (W.contents output.old) (W.contents output.new)
-        (form_text form (seen bits.entry).window.len)) }
-{
-    print_form(output, bits, form)?;
-    output.flush()
 }

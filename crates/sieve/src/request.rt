@@ -1,7 +1,5 @@
 //! What the words after the program's name ask for.
 ghost use Rattle.std.specs.Prelude.{◌≡◌, ◌<◌, IfSome, map, string_bytes};
-ghost use Rattle.std.specs.Char.{is_ascii_digit};
-ghost use Rattle.std.specs.List.{list_all};
 ghost use Rattle.sieve.specs.Requests.{HasWidth, number_of, width_of, form_of, wide_form_of, request, request_of};
 
 /// How the primes are printed.
@@ -22,22 +20,15 @@ pub struct Request {
     pub below: usize,
 }
 
-/// Whether each byte is a decimal digit.
-fn is_decimal(word: &str) -> bool
-    ensures { result ≡ list_all is_ascii_digit word.now }
-{
-    word.bytes().all(|byte| byte.is_ascii_digit())
-}
-
-/// The number of a word of one or more decimal digits, leading zeros allowed. None, if the word is
-/// another one or its number doesn't fit.
+/// The number of a word of one or more decimal digits, leading zeros allowed but no plus. None, if the
+/// word is another one or its number doesn't fit.
 fn parse_number(word: &str) -> Option<usize>
     ensures { result ≡ number_of word.now }
 {
-    if !is_decimal(word) {
+    if word.starts_with('+') {
         return None;
     }
-    word.parse::<usize>().ok()
+    word.parse().ok()
 }
 
 /// The width of a picture, which is above 0.

@@ -7,7 +7,7 @@ ghost use Rattle.sieve.specs.Requests.{HasWidth, request_of};
 ghost use Rattle.sieve.specs.Texts.{line_of, text_of};
 
 use crate::primes::sieve;
-use crate::print::print_primes;
+use crate::print::print_form;
 use crate::request::Request;
 use bitvec::index::MAX_BITS;
 use bitvec::prelude::*;
@@ -45,7 +45,8 @@ fn print_sieved<W: Write>(elements: &mut [u64], request: Request, output: &mut W
 {
     let mut bits = BitSliceMut::<u64, Lsb0>::from_slice_mut(elements).into_part(0..request.below);
     sieve(&mut bits);
-    print_primes(output, bits.as_ref(), request.form)
+    print_form(output, bits.as_ref(), request.form)?;
+    output.flush()
 }
 
 /// Prints a line.

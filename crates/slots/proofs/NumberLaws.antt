@@ -15,6 +15,7 @@ own : IsNumeralModel (λ word. list_all is_ascii_digit word ≡ true) (digits_va
 own = numerals_by_value _ tells_digits
 
 pub number_of-parse : {E : Type 0} (word : List ℕ) (r : Result ℕ E) → ParsesUnsigned 64 10 word r → result_ok r ≡ number_of word
+unfolding number_of
 number_of-parse word (Ok n) h =
     let digits = own.from (without_leading_plus word) h.0.0.1 in
     grind (arith, nat_tests, digits, h)

@@ -22,7 +22,7 @@ numeral_of digits =
     then Some (digits_value 10 digits) else None
 
 -- a plus may stand before the digits
-abbrev pub number_of : List ℕ → Option ℕ
+unfoldable pub number_of : List ℕ → Option ℕ
 number_of word = numeral_of (without_leading_plus word)
 
 abbrev pub word_at : List (List ℕ) → ℕ → List ℕ

@@ -1,4 +1,4 @@
-use Rattle.std.proofs.Common.{◌≡◌, ℕ, ◌⊎◌, IfErr, List, Option, Some, map, string_bytes, Global, subst, sym, arith}
+use Rattle.std.proofs.Common.{◌≡◌, ◌⊎◌, IfErr, Option, Some, map, string_bytes, Global, subst, sym, arith}
 use Rattle.std.proofs.lemmas.Grind.{common_steps}
 use Rattle.bitstream.specs.Program.{Asked, Refuses, asked_of, decode}
 use Rattle.bitstream.specs.declared.fault.Fault.TheVariants.{Output}

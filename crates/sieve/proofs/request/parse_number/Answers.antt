@@ -1,6 +1,10 @@
-use Rattle.std.proofs.Common.{sym, ◌∙◌}
+use Rattle.std.proofs.Common.{◌∙◌, ap, lit<, sym}
+use Rattle.std.specs.Prelude.{drop, if◌then◌else◌}
 use Rattle.sieve.proofs.RequestLaws.{number_of-parse}
 use Rattle.sieve.proofs.request.parse_number.Goals as goal
 
 pub returns : goal.returns
-returns c = c.ok.ensures.value ∙ number_of-parse c.args.word.now c.parse.result c.parse.ensures.value.0 (sym c.if-not-is_decimal.ensures)
+returns c =
+    let plus = c.starts_with.ensures.byte (lit< tt) (lit< tt) (λ text found h. h) in
+    let plain = ap (λ sign. drop (if sign then 1 else 0) c.args.word.now) (sym plus ∙ c.if-starts_with.false) in
+    c.ok.ensures.value ∙ number_of-parse c.args.word.now c.parse.result (rw plain at c.parse.ensures.value.0)
