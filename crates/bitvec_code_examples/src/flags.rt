@@ -1,5 +1,5 @@
 //! What a caller knows of truth values that stand in an array as numbers of one bit.
-ghost use Rattle.std.specs.Prelude.{◌≡◌, ◌*◌, ◌≤◌, IfOk, OnOk, length};
+ghost use Rattle.std.specs.Prelude.{◌≡◌, ◌*◌, ◌≤◌, IfOk, OnOk, length, true};
 ghost use Rattle.std.specs.Int.{from_bool};
 ghost use Rattle.bitvec.specs.Arrays.{msb0_bits};
 ghost use Rattle.bitvec.specs.Ranges.{number_in};

@@ -93,15 +93,22 @@ fn are_sets(alloc: Global) -> Result<bool, AllocError> {
             new = put_in(&mut numbers, number) && new;
         }
     }
+    if numbers.len() != 8 {
+        return Ok(false);
+    }
     let others = [0b0011_0000u64];
     unite(&mut numbers, BitSlice::from_slice(&others).into_part(0..8));
     take_out(&mut numbers, BitSlice::from_slice(&[0b0001_1000u64]));
     let view = numbers.as_bitslice();
-    Ok(
-        new && number_at(view, 1) == Some(5)
-            && number_at(view, 3).is_none()
-            && first_idle(view, &[0, 1, 2, 1, 0, 1, 0, 0]) == Some(7),
-    )
+    if view.len() != 8 {
+        return Ok(false);
+    }
+    let found = [
+        number_at(view, 1),
+        number_at(view, 3),
+        first_idle(view, &[0, 1, 2, 1, 0, 1, 0, 0]),
+    ];
+    Ok(new && found == [Some(5), None, Some(7)])
 }
 
 #[test]
