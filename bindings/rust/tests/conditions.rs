@@ -308,7 +308,7 @@ fn ranges_in_place(seen: &mut Seen) {
     each!(on_slice seen (in_place::) [u8, Msb0] [0, 48]; swap);
     each!(on_slice seen (in_place::) [u8, Msb0] [9..8, 0]; rotate_left rotate_right shift_start shift_end);
     each!(on_slice seen (in_place::) [u8, Msb0] [8..16, 9]; rotate_left rotate_right shift_start shift_end);
-    each!(on_slice seen (in_place::) [u8, Msb0] [8..20, 37]; copy_within swap_within and_within or_within xor_within);
+    each!(on_slice seen (in_place::) [u8, Msb0] [8..20, 37]; copy_within swap_within and_within or_within xor_within and_not_within);
     each!(on_slice seen (in_place::) [u8, Msb0] [8..20, 9]; swap_within);
     refused!(seen;
         fill(|bytes| in_place::fill::<u8, Msb0>(bytes, 40..49, true));
@@ -324,6 +324,7 @@ fn ranges_in_place(seen: &mut Seen) {
         and_bits(|bytes| in_place::and_bits::<u8, Msb0, u8, Msb0>(bytes, 40..49, other));
         or_bits(|bytes| in_place::or_bits::<u8, Msb0, u8, Msb0>(bytes, 40..49, other));
         xor_bits(|bytes| in_place::xor_bits::<u8, Msb0, u8, Msb0>(bytes, 40..49, other));
+        and_not_bits(|bytes| in_place::and_not_bits::<u8, Msb0, u8, Msb0>(bytes, 40..49, other));
         eq_bits(|bytes| in_place::eq_bits::<u8, Msb0, u8, Msb0>(bytes, 40..49, other));
         cmp_bits(|bytes| in_place::cmp_bits::<u8, Msb0, u8, Msb0>(bytes, 40..49, other));
         starts_with(|bytes| in_place::starts_with::<u8, Msb0, u8, Msb0>(bytes, 40..49, other));
@@ -387,6 +388,8 @@ fn views(seen: &mut Seen) {
         and_within(|bytes| view(bytes).and_within(0..9, 40));
         or_within(|bytes| view(bytes).or_within(0..9, 40));
         xor_within(|bytes| view(bytes).xor_within(0..9, 40));
+        and_not_within(|bytes| view(bytes).and_not_within(0..9, 40));
+        count_ones_before(|bytes| view(bytes).count_ones_before(49));
         copy_from_bitslice(|bytes| view(bytes).copy_from_bitslice(other));
         copy_from_slice(|bytes| view(bytes).copy_from_slice(other));
         clone_from_bitslice(|bytes| view(bytes).clone_from_bitslice(other));
