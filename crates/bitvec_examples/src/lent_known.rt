@@ -5,6 +5,7 @@ ghost use Rattle.bitvec.specs.Kept.{KeepsOutside};
 ghost use Rattle.bitvec.specs.LentPieces.{name_of_pieces, walk_of};
 ghost use Rattle.bitvec.specs.Touched.{end_touched, first_touched};
 ghost use Rattle.bitvec.specs.Views.{seen_mut};
+ghost use Rattle.bitvec.specs.Writes.{WritesBits};
 
 use bitvec::prelude::*;
 use bitvec::slice::ChunksMut;
@@ -17,9 +18,11 @@ fn paint<T: BitStore, O: SliceOrder>(piece: &mut BitSliceMut<'_, T, O>)
 }
 
 /// Sets the bit at an index, if the view has it: the view stays where it is, and so does each element but that of the bit.
+/// Else the view has the bits that it had.
 pub fn set_if<T: BitStore, O: SliceOrder>(view: &mut BitSliceMut<'_, T, O>, index: usize)
     ensures window { (seen_mut view.new).window ≡ (seen_mut view.old).window }
     ensures none { (seen_mut view.old).window.len ≤ index → (seen_mut view.new).elements ≡ (seen_mut view.old).elements }
+    ensures bits { (seen_mut view.old).window.len ≤ index → WritesBits view.old view.new (seen_mut view.old).bits }
     ensures elements { index < (seen_mut view.old).window.len → let place = (seen_mut view.old).window.start + index in
         KeepsOutside (first_touched T.BITS place) (end_touched T.BITS (place + 1)) (seen_mut view.old).elements (seen_mut view.new).elements }
 {

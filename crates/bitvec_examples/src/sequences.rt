@@ -27,16 +27,17 @@ pub fn put_first(bits: &mut Words, bit: bool) -> Result<(), AllocError>
     bits.insert(0, bit)
 }
 
-/// Takes the first bits, and then the one at an index, to whose place the last one comes. It gives 0 where no bit has the index.
-/// Condition: there are as many bits.
-pub fn take_two_ways(bits: &mut Words, count: usize, index: usize) -> Result<bool, AllocError>
-    requires { count ≤ (owned bits.old).window.len }
+/// Takes the first bit, and then the one at an index, to whose place the last one comes. Condition: a bit stands behind it.
+#[tactic(auto, using(bitvec::specs::Laws::reindexed))]
+pub fn take_two(bits: &mut Words, index: usize) -> (bool, bool)
+    requires { index + 2 < (owned bits.old).window.len }
+    ensures first { result.0 ≡ slice_index_or (owned bits.old).bits 0 false }
+    ensures second { result.1 ≡ slice_index_or (owned bits.old).bits (index + 1) false }
+    ensures last { slice_index_or (owned bits.new).bits index false ≡ slice_index_or (owned bits.old).bits ((owned bits.old).window.len - 1) false }
+    ensures before { (k : ℕ) → k < index → slice_index_or (owned bits.new).bits k false ≡ slice_index_or (owned bits.old).bits (k + 1) false }
 {
-    bits.drain(0..count)?;
-    if index >= bits.len() {
-        return Ok(false);
-    }
-    Ok(bits.swap_remove(index))
+    let first = bits.remove(0);
+    (first, bits.swap_remove(index))
 }
 
 /// Adds a mark and the seven bits of a number behind it, or nothing where memory is refused.
@@ -66,8 +67,8 @@ fn are_put_and_taken(alloc: Global) -> Result<bool, AllocError> {
     if bits.len() != 9 {
         return Ok(false);
     }
-    let taken = take_two_ways(&mut bits, 1, 2)?;
-    Ok(back && !taken && bits.as_raw_slice() == [0b1101001].as_slice() && bits.len() == 7)
+    let (first, second) = take_two(&mut bits, 2);
+    Ok(first && back && !second && bits.as_raw_slice() == [0b1101001].as_slice() && bits.len() == 7)
 }
 
 #[test]

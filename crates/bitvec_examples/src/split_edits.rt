@@ -1,8 +1,9 @@
 //! Edits of the pieces of a split by closures: what a caller knows of them.
-ghost use Rattle.std.specs.Prelude.{◌≡◌, ℕ, List, false, map, not, slice_index_or, true};
+ghost use Rattle.std.specs.Prelude.{◌≡◌, ℕ, ◌<◌, ◌⊎◌, List, false, map, not, slice_index_or, true};
 ghost use Rattle.std.specs.declared.ops.Range.{Range};
+ghost use Rattle.bitvec.specs.SplitCoversLaws.{IsInOne, SaysYes};
 ghost use Rattle.bitvec.specs.SplitEdits.{GivesInTurn};
-ghost use Rattle.bitvec.specs.SplitEditsLaws.{made};
+ghost use Rattle.bitvec.specs.SplitEditsLaws.{IsInNone, made};
 ghost use Rattle.bitvec.specs.SplitLent.{MayGoOnIn, SplitNextIn, unsplit_in};
 ghost use Rattle.bitvec.specs.Views.{seen_mut};
 ghost use Rattle.bitvec.specs.Writes.{WritesBits};
@@ -16,14 +17,16 @@ pub fn fill_between_ones<T: BitStore, O: SliceOrder>(view: &mut BitSliceMut<'_, 
     view.for_each_split_mut(|_index, bit| *bit, |_number, piece| piece.fill(true));
 }
 
-/// Flips the bits between those at which `pred` says yes, and no other.
+/// Flips the bits between those at which `pred` says yes, and no other: each bit is in one of the pieces, or `pred` said yes to it.
 pub fn invert_between<T: BitStore, O: SliceOrder, P: FnMut(usize, &bool) -> bool>(
     view: &mut BitSliceMut<'_, T, O>,
     pred: P,
 )
     requires { MayGoOnIn P.FnMut (unsplit_in false (seen_mut view.old) pred) }
     ensures { (pieces : List (Range ℕ)) × GivesInTurn (SplitNextIn P.FnMut false false) (unsplit_in false (seen_mut view.old) pred) pieces
-        × WritesBits view.old view.new (made (λ _number bits. map not bits) (seen_mut view.old).bits 0 pieces (seen_mut view.old).bits) }
+        × WritesBits view.old view.new (made (λ _number bits. map not bits) (seen_mut view.old).bits 0 pieces (seen_mut view.old).bits)
+        × ((index : ℕ) → IsInNone index pieces → slice_index_or (seen_mut view.new).bits index false ≡ slice_index_or (seen_mut view.old).bits index false)
+        × ((index : ℕ) → index < (seen_mut view.old).window.len → IsInOne index pieces ⊎ SaysYes P.FnMut (slice_index_or (seen_mut view.old).bits index false)) }
 {
     view.for_each_split_mut(pred, |_number, piece| piece.invert());
 }
