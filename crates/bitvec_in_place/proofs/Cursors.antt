@@ -1,5 +1,5 @@
 -- What the proofs of cursors, of edits by one place and of edits of a type want of a slice's bits.
-use Rattle.std.specs.Prelude.{◌≡◌, ℕ, ◌+◌, ◌-◌, ◌%◌, ◌^◌, ◌<◌, ◌≤◌, Bool, false, true, List, refl, slice_range, take, drop}
+use Rattle.std.specs.Prelude.{◌≡◌, ℕ, ◌+◌, ◌-◌, ◌<◌, ◌≤◌, Bool, false, true, List, refl, slice_range, take, drop}
 use Rattle.std.proofs.Common.{arith, ◌∙◌, ap}
 use Rattle.bitvec_in_place.specs.FrontLaws.{front-range, inserted-is, removed-is}
 use Rattle.bitvec_in_place.specs.MovedLaws.{length-bits_of}

@@ -1,5 +1,5 @@
 -- Where the last bit of a kind stands in a window, and how many come after it.
-use Rattle.std.specs.Prelude.{◌≡◌, ℕ, ◌+◌, Bool, List, length, None, Option, Some}
+use Rattle.std.specs.Prelude.{◌≡◌, ℕ, ◌+◌, Bool, List, length, None, Some}
 use Rattle.std.specs.List.{suffix_len}
 use Rattle.std.proofs.Common.{arith}
 use Rattle.bitvec_base.specs.LeadingLaws.{is_other, last_run}

@@ -9,11 +9,10 @@ use Rattle.bitvec_within.specs.Combined.{combined_within}
 use Rattle.bitvec_within.specs.CombinedLaws.{length-combined_within}
 use Rattle.bitvec_base.specs.Lists.{combined, copied_within}
 use Rattle.bitvec_base.specs.CountLaws.{ones_and_zeros}
-use Rattle.bitvec_base.specs.LeadingLaws.{first_run, last_run}
 use Rattle.bitvec_base.specs.Memory.{HasWindow, Writes, memory_bits}
 use Rattle.bitvec_base.specs.SliceLaws.{range-all}
 use Rattle.bitvec_base.specs.Window.{max_bits, window_of, write_at}
-use Rattle.bitvec_base.specs.WriteLaws.{length-slice_range, range-write_at, write_at-all}
+use Rattle.bitvec_base.specs.WriteLaws.{range-write_at, write_at-all}
 use Rattle.bitvec_base.specs.declared.window.Window.{Window}
 use Rattle.bitvec_segments.specs.Segments.{loaded, stored}
 use Rattle.bitvec_within.specs.Swaps.{swapped_within}

@@ -1,5 +1,5 @@
 -- Edits that change only one range of a list: that each edit of a range is one, what stays beside it, and several such edits as one.
-use Rattle.std.specs.Prelude.{◌≡◌, ℕ, ◌+◌, ◌-◌, ◌<◌, ◌≤◌, ◌⊎◌, Bool, false, List, length, refl, reverse, slice_index_or, slice_set}
+use Rattle.std.specs.Prelude.{◌≡◌, ℕ, ◌+◌, ◌-◌, ◌<◌, ◌≤◌, ◌⊎◌, Bool, false, List, length, refl, reverse, slice_set}
 use Rattle.std.proofs.Common.{arith, ◌∙◌, inl, inr, ⊎_elim}
 use Rattle.std.proofs.lemmas.List.{get_or-set_other, get_or_default, length-set}
 use Rattle.bitvec_base.specs.LengthLaws as lasting

@@ -28,10 +28,10 @@ pub struct BitReader<'a, T: BitStore, O: BitOrder> {
 
 #[tactic(auto, using(crate::proofs::Cursors::readers))]
 impl<'a, T: BitStore, O: BitOrder> BitReader<'a, T, O> {
-    ghost use Rattle.std.specs.Prelude.{◌≡◌, ◌+◌, ◌-◌, ◌*◌, ◌%◌, ◌<◌, ◌↔◌, IfErr, IfOk, IsOk, false, if◌then◌else◌, is_ok, map, slice_index_or};
+    ghost use Rattle.std.specs.Prelude.{◌≡◌, ◌+◌, ◌-◌, ◌*◌, ◌%◌, ◌<◌, IfOk, false, if◌then◌else◌, is_ok, map, slice_index_or};
     ghost use Rattle.bitvec_base.specs.Memory.{memory_bits};
     ghost use Rattle.bitvec_base.specs.Window.{max_bits};
-    ghost use Rattle.bitvec_in_place.specs.Cursors.{reading, start_of};
+    ghost use Rattle.bitvec_in_place.specs.Cursors.{Answers, KeepsBits, reading, start_of};
     ghost use Rattle.bitvec_in_place.specs.Ranges.{bits_in};
     ghost use Rattle.bitvec_in_place.specs.declared.cursor_error.CursorError.TheVariants.{Ended};
 
@@ -79,10 +79,8 @@ impl<'a, T: BitStore, O: BitOrder> BitReader<'a, T, O> {
 
     /// Goes past bits. If fewer are left, it is refused with `Ended`, and the reader stays.
     pub fn skip(&mut self, width: usize) -> Result<(), CursorError>
-        ensures accepted { IsOk result ↔ ((reading self.old).position + width ≤ length (reading self.old).bits) }
-        ensures refused { IfErr result (λ why. why ≡ Ended) }
-        ensures bits { (reading self.new).bits ≡ (reading self.old).bits }
-        ensures start { start_of self.new ≡ start_of self.old }
+        ensures answer { Answers ((reading self.old).position + width ≤ length (reading self.old).bits) Ended result }
+        ensures keeps { KeepsBits self.old self.new }
         ensures position { (reading self.new).position ≡ (reading self.old).position + (if is_ok result then width else 0) }
     {
         if width > self.remaining() {
@@ -94,11 +92,9 @@ impl<'a, T: BitStore, O: BitOrder> BitReader<'a, T, O> {
 
     /// The next bit. If none is left, it is refused with `Ended`, and the reader stays.
     pub fn take_bit(&mut self) -> Result<bool, CursorError>
-        ensures accepted { IsOk result ↔ ((reading self.old).position < length (reading self.old).bits) }
-        ensures refused { IfErr result (λ why. why ≡ Ended) }
+        ensures answer { Answers ((reading self.old).position < length (reading self.old).bits) Ended result }
         ensures value { IfOk result (λ bit. bit ≡ slice_index_or (reading self.old).bits (reading self.old).position false) }
-        ensures bits { (reading self.new).bits ≡ (reading self.old).bits }
-        ensures start { start_of self.new ≡ start_of self.old }
+        ensures keeps { KeepsBits self.old self.new }
         ensures position { (reading self.new).position ≡ (reading self.old).position + (if is_ok result then 1 else 0) }
     {
         let index = self.position;
@@ -108,12 +104,10 @@ impl<'a, T: BitStore, O: BitOrder> BitReader<'a, T, O> {
 
     /// The next `width` bits, as a view. If fewer are left, it is refused with `Ended`, and the reader stays.
     pub fn take_bits(&mut self, width: usize) -> Result<BitSlice<'a, T, O>, CursorError>
-        ensures accepted { IsOk result ↔ ((reading self.old).position + width ≤ length (reading self.old).bits) }
-        ensures refused { IfErr result (λ why. why ≡ Ended) }
+        ensures answer { Answers ((reading self.old).position + width ≤ length (reading self.old).bits) Ended result }
         ensures value { IfOk result (λ view. (seen view).bits ≡ bits_in (reading self.old).bits (reading self.old).position ((reading self.old).position + width)) }
         ensures long { IfOk result (λ view. (seen view).window.len ≡ width) }
-        ensures bits { (reading self.new).bits ≡ (reading self.old).bits }
-        ensures start { start_of self.new ≡ start_of self.old }
+        ensures keeps { KeepsBits self.old self.new }
         ensures position { (reading self.new).position ≡ (reading self.old).position + (if is_ok result then width else 0) }
     {
         let from = self.position;
@@ -124,8 +118,8 @@ impl<'a, T: BitStore, O: BitOrder> BitReader<'a, T, O> {
 
 #[tactic(auto, using(crate::proofs::Cursors::readers))]
 impl<'a, T: BitStore, O: FieldOrder> BitReader<'a, T, O> {
-    ghost use Rattle.std.specs.Prelude.{◌≡◌, ◌+◌, ◌<◌, ◌↔◌, IfErr, IfOk, IsOk, if◌then◌else◌, is_ok};
-    ghost use Rattle.bitvec_in_place.specs.Cursors.{reading, start_of};
+    ghost use Rattle.std.specs.Prelude.{◌≡◌, ◌+◌, ◌<◌, IfOk, if◌then◌else◌, is_ok};
+    ghost use Rattle.bitvec_in_place.specs.Cursors.{Answers, KeepsBits, reading};
     ghost use Rattle.bitvec_in_place.specs.Ranges.{number_in};
     ghost use Rattle.bitvec_in_place.specs.declared.cursor_error.CursorError.TheVariants.{Ended};
     ghost use Rattle.bitvec_segments.specs.Integers.{integer_of};
@@ -135,12 +129,10 @@ impl<'a, T: BitStore, O: FieldOrder> BitReader<'a, T, O> {
     pub fn take<I: Integral>(&mut self, width: u32) -> Result<I, CursorError>
         requires some { 0 < I.BITS }
         requires bound { width ≤ I.BITS }
-        ensures accepted { IsOk result ↔ ((reading self.old).position + width ≤ length (reading self.old).bits) }
-        ensures refused { IfErr result (λ why. why ≡ Ended) }
+        ensures answer { Answers ((reading self.old).position + width ≤ length (reading self.old).bits) Ended result }
         ensures value { IfOk result (λ number. I.value number ≡ integer_of I.SIGNED width
             (number_in O.HIGH O.HIGH T.BITS (reading self.old).bits (reading self.old).position ((reading self.old).position + width))) }
-        ensures bits { (reading self.new).bits ≡ (reading self.old).bits }
-        ensures start { start_of self.new ≡ start_of self.old }
+        ensures keeps { KeepsBits self.old self.new }
         ensures position { (reading self.new).position ≡ (reading self.old).position + (if is_ok result then width else 0) }
     {
         let number = self.peek::<I>(width)?;
@@ -153,8 +145,7 @@ impl<'a, T: BitStore, O: FieldOrder> BitReader<'a, T, O> {
     pub fn peek<I: Integral>(&self, width: u32) -> Result<I, CursorError>
         requires some { 0 < I.BITS }
         requires bound { width ≤ I.BITS }
-        ensures accepted { IsOk result ↔ ((reading self.now).position + width ≤ length (reading self.now).bits) }
-        ensures refused { IfErr result (λ why. why ≡ Ended) }
+        ensures answer { Answers ((reading self.now).position + width ≤ length (reading self.now).bits) Ended result }
         ensures value { IfOk result (λ number. I.value number ≡ integer_of I.SIGNED width
             (number_in O.HIGH O.HIGH T.BITS (reading self.now).bits (reading self.now).position ((reading self.now).position + width))) }
     {

@@ -33,10 +33,10 @@ pub struct BitWriter<'a, T: BitStore, O: BitOrder> {
 
 #[tactic(auto, using(crate::proofs::Cursors::cursors))]
 impl<'a, T: BitStore, O: BitOrder> BitWriter<'a, T, O> {
-    ghost use Rattle.std.specs.Prelude.{◌≡◌, ◌+◌, ◌-◌, ◌<◌, ◌↔◌, IfErr, IsOk, OnErr, OnOk, if◌then◌else◌, is_ok, map, slice_set};
+    ghost use Rattle.std.specs.Prelude.{◌≡◌, ◌+◌, ◌-◌, ◌<◌, OnOk, if◌then◌else◌, is_ok, map, slice_set};
     ghost use Rattle.bitvec_base.specs.Memory.{memory_bits};
     ghost use Rattle.bitvec_base.specs.Window.{write_at};
-    ghost use Rattle.bitvec_in_place.specs.Cursors.{elements_of, lender_of, writing};
+    ghost use Rattle.bitvec_in_place.specs.Cursors.{Answers, KeepsElements, elements_of, lender_of, writing};
     ghost use Rattle.bitvec_in_place.specs.Fronts.{front_bits};
     ghost use Rattle.bitvec_in_place.specs.Ranges.{bits_in};
     ghost use Rattle.bitvec_in_place.specs.declared.cursor_error.CursorError.TheVariants.{Full};
@@ -102,8 +102,7 @@ impl<'a, T: BitStore, O: BitOrder> BitWriter<'a, T, O> {
 
     /// Goes past bits, which stay. If fewer are left, it is refused with `Full`, and the writer stays.
     pub fn skip(&mut self, width: usize) -> Result<(), CursorError>
-        ensures accepted { IsOk result ↔ ((writing self.old).position + width ≤ length (writing self.old).bits) }
-        ensures refused { IfErr result (λ why. why ≡ Full) }
+        ensures answer { Answers ((writing self.old).position + width ≤ length (writing self.old).bits) Full result }
         ensures kept { elements_of self.new ≡ elements_of self.old }
         ensures position { (writing self.new).position ≡ (writing self.old).position + (if is_ok result then width else 0) }
         ensures name { lender_of self.new ≡ lender_of self.old }
@@ -117,13 +116,10 @@ impl<'a, T: BitStore, O: BitOrder> BitWriter<'a, T, O> {
 
     /// Makes the next bit `bit`. If none is left, it is refused with `Full`, and nothing is written.
     pub fn put_bit(&mut self, bit: bool) -> Result<(), CursorError>
-        ensures accepted { IsOk result ↔ ((writing self.old).position < length (writing self.old).bits) }
-        ensures refused { IfErr result (λ why. why ≡ Full) }
+        ensures answer { Answers ((writing self.old).position < length (writing self.old).bits) Full result }
         ensures bits { OnOk result ((writing self.new).bits ≡ slice_set (writing self.old).bits (writing self.old).position bit) }
-        ensures kept { OnErr result (elements_of self.new ≡ elements_of self.old) }
         ensures position { (writing self.new).position ≡ (writing self.old).position + (if is_ok result then 1 else 0) }
-        ensures len { length (elements_of self.new) ≡ length (elements_of self.old) }
-        ensures name { lender_of self.new ≡ lender_of self.old }
+        ensures elements { KeepsElements self.old self.new result }
     {
         let index = self.position;
         self.skip(1)?;
@@ -136,13 +132,10 @@ impl<'a, T: BitStore, O: BitOrder> BitWriter<'a, T, O> {
         &mut self,
         source: BitSlice<'_, U, P>,
     ) -> Result<(), CursorError>
-        ensures accepted { IsOk result ↔ ((writing self.old).position + (seen source.entry).window.len ≤ length (writing self.old).bits) }
-        ensures refused { IfErr result (λ why. why ≡ Full) }
+        ensures answer { Answers ((writing self.old).position + (seen source.entry).window.len ≤ length (writing self.old).bits) Full result }
         ensures bits { OnOk result ((writing self.new).bits ≡ write_at (writing self.old).bits (writing self.old).position (seen source.entry).bits) }
-        ensures kept { OnErr result (elements_of self.new ≡ elements_of self.old) }
         ensures position { (writing self.new).position ≡ (writing self.old).position + (if is_ok result then (seen source.entry).window.len else 0) }
-        ensures len { length (elements_of self.new) ≡ length (elements_of self.old) }
-        ensures name { lender_of self.new ≡ lender_of self.old }
+        ensures elements { KeepsElements self.old self.new result }
     {
         let from = self.position;
         self.skip(source.len())?;
@@ -153,10 +146,10 @@ impl<'a, T: BitStore, O: BitOrder> BitWriter<'a, T, O> {
 
 #[tactic(auto, using(crate::proofs::Cursors::cursors))]
 impl<'a, T: BitStore, O: FieldOrder> BitWriter<'a, T, O> {
-    ghost use Rattle.std.specs.Prelude.{◌≡◌, ◌+◌, ◌%◌, ◌^◌, ◌↔◌, IfErr, IsOk, OnErr, OnOk, if◌then◌else◌, is_ok, map};
+    ghost use Rattle.std.specs.Prelude.{◌≡◌, ◌+◌, ◌%◌, ◌^◌, OnOk, if◌then◌else◌, is_ok, map};
     ghost use Rattle.std.specs.List.{All};
     ghost use Rattle.bitvec_base.specs.Memory.{memory_bits};
-    ghost use Rattle.bitvec_in_place.specs.Cursors.{elements_of, lender_of, writing};
+    ghost use Rattle.bitvec_in_place.specs.Cursors.{Answers, KeepsElements, elements_of, lender_of, writing};
     ghost use Rattle.bitvec_in_place.specs.Ranges.{ChangesOnly, number_in, numbered};
     ghost use Rattle.bitvec_in_place.specs.Rows.{HasRow, row_len};
     ghost use Rattle.bitvec_in_place.specs.declared.cursor_error.CursorError.TheVariants.{Full};
@@ -166,14 +159,11 @@ impl<'a, T: BitStore, O: FieldOrder> BitWriter<'a, T, O> {
     /// fewer are left, it is refused with `Full`, and nothing is written. Condition: `width` is at most `I::BITS`.
     pub fn put<I: Integral>(&mut self, value: I, width: u32) -> Result<(), CursorError>
         requires { width ≤ I.BITS }
-        ensures accepted { IsOk result ↔ ((writing self.old).position + width ≤ length (writing self.old).bits) }
-        ensures refused { IfErr result (λ why. why ≡ Full) }
+        ensures answer { Answers ((writing self.old).position + width ≤ length (writing self.old).bits) Full result }
         ensures bits { OnOk result ((writing self.new).bits ≡ numbered O.HIGH O.HIGH T.BITS (writing self.old).bits
             (writing self.old).position ((writing self.old).position + width) (remainder_of I.BITS (I.value value))) }
-        ensures kept { OnErr result (elements_of self.new ≡ elements_of self.old) }
         ensures position { (writing self.new).position ≡ (writing self.old).position + (if is_ok result then width else 0) }
-        ensures len { length (elements_of self.new) ≡ length (elements_of self.old) }
-        ensures name { lender_of self.new ≡ lender_of self.old }
+        ensures elements { KeepsElements self.old self.new result }
     {
         let from = self.position;
         self.skip(width as usize)?;
@@ -186,14 +176,11 @@ impl<'a, T: BitStore, O: FieldOrder> BitWriter<'a, T, O> {
     /// is written. Condition: each width is at most 64.
     pub fn put_row(&mut self, row: &[(u32, u64)]) -> Result<(), CursorError>
         requires { All (λ field. field.0 ≤ 64) row.now }
-        ensures accepted { IsOk result ↔ ((writing self.old).position + row_len row.now ≤ length (writing self.old).bits) }
-        ensures refused { IfErr result (λ why. why ≡ Full) }
+        ensures answer { Answers ((writing self.old).position + row_len row.now ≤ length (writing self.old).bits) Full result }
         ensures row { OnOk result (HasRow O.HIGH T.BITS (writing self.new).bits (writing self.old).position row.now) }
         ensures outside { ChangesOnly (writing self.old).position (writing self.new).position (writing self.old).bits (writing self.new).bits }
-        ensures kept { OnErr result (elements_of self.new ≡ elements_of self.old) }
         ensures position { (writing self.new).position ≡ (writing self.old).position + (if is_ok result then row_len row.now else 0) }
-        ensures len { length (elements_of self.new) ≡ length (elements_of self.old) }
-        ensures name { lender_of self.new ≡ lender_of self.old }
+        ensures elements { KeepsElements self.old self.new result }
     {
         if !has_room(self.remaining(), row) {
             return Err(CursorError::Full);
