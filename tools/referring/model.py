@@ -406,7 +406,7 @@ class Model:
             for word in reader.words if file.endswith("Examples") else ():
                 for name in {*NAME.findall(" ".join(word.statement))}:
                     target = self.specs_target(*word.imports[name]) if name in word.imports else None
-                    if target in reached:
+                    if target in reached and target.name == word.name.rpartition("-")[0]:
                         target.checked.append(" ".join(word.statement).partition(" : ")[2])
         # the sets that callers name come first
         self.entries += sorted((it for it in self.words.values() if it in reached), key=lambda it: (it.kind == "set", it.scope.crate != BITVEC and it.kind == "set"))
