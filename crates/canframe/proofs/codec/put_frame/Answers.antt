@@ -1,0 +1,14 @@
+use Rattle.std.proofs.Common.{arith}
+use Rattle.std.proofs.lemmas.Grind.{common_steps}
+use Rattle.bitvec.specs.Laws.{sized}
+use Rattle.canframe.proofs.FrameLaws.{framed}
+use Rattle.canframe.proofs.codec.put_frame.Goals as goal
+
+pub returns-clause-frame : goal.returns-clause-frame
+returns-clause-frame c =
+    let header = c.in_ok-put_header.ensures in
+    let put = c.in_ok-put_bytes.ensures in
+    let closed = c.in_ok-put_checksum.ensures in
+    let at = put.position in
+    let is = framed _ _ _ c.args.id c.args.bytes.now _ _ c.requires.valid c.requires.few (grind (arith, common_steps, sized)) header.header put.bytes put.outside closed.outside at closed.checksum closed.filler in
+    grind (arith, common_steps, is)

@@ -1,0 +1,4 @@
+pub mod Checksums
+pub mod Faults
+pub mod Frames
+pub mod Program
