@@ -1,45 +1,13 @@
--- Frames: their parts stand beside an edit and make one, and where none stands.
-use Rattle.std.specs.Prelude.{◌≡◌, ◌≢◌, ℕ, ◌+◌, ◌*◌, ◌^◌, ◌<◌, ◌≤◌, Bool, true, List, length}
-use Rattle.std.proofs.Common.{ap, arith, inl, sym, ◌∙◌}
+-- Frames: what makes one, and where none stands.
+use Rattle.std.specs.Prelude.{◌≡◌, ◌≢◌, ℕ, ◌+◌, ◌*◌, ◌^◌, ◌<◌, ◌≤◌, Bool, List, length}
+use Rattle.std.proofs.Common.{arith, sym, ◌∙◌}
 use Rattle.std.proofs.lemmas.List.{ext_get_or}
-use Rattle.bitvec.specs.ChangesLaws.{bits-unchanged, number-unchanged}
-use Rattle.bitvec.specs.Ranges.{ChangesOnly, bits_in}
-use Rattle.canframe.specs.Checksums.{crc_of}
 use Rattle.canframe.specs.Frames.{HasBytes, HasHeader, IsFrame, IsSealed, LacksFrame, field}
 
--- ---- parts beside an edit
-
-module _ (old new : List Bool) (from to : ℕ) (kept : ChangesOnly from to old new) where
-  header-kept : (id count : ℕ) → HasHeader old id count → 19 ≤ from → 19 ≤ length old → HasHeader new id count
-  header-kept id count was apart inside = record {
-    start_is = number-unchanged true true 8 old new from to 0 1 kept (omega arith) (inl (omega arith)) ∙ was.start_is;
-    id_is = number-unchanged true true 8 old new from to 1 12 kept (omega arith) (inl (omega arith)) ∙ was.id_is;
-    remote_is = number-unchanged true true 8 old new from to 12 13 kept (omega arith) (inl (omega arith)) ∙ was.remote_is;
-    extended_is = number-unchanged true true 8 old new from to 13 14 kept (omega arith) (inl (omega arith)) ∙ was.extended_is;
-    reserved_is = number-unchanged true true 8 old new from to 14 15 kept (omega arith) (inl (omega arith)) ∙ was.reserved_is;
-    count_is = number-unchanged true true 8 old new from to 15 19 kept (omega arith) (inl (omega arith)) ∙ was.count_is;
-  }
-
-  bytes-kept : (count : ℕ) (bytes : List ℕ) → HasBytes old count bytes → 19 + 8 * count ≤ from → 19 + 8 * count ≤ length old → HasBytes new count bytes
-  bytes-kept count bytes was apart inside = record { each = λ k below. number-unchanged true true 8 old new from to (19 + 8 * k) (19 + 8 * k + 8) kept (omega arith) (inl (omega arith)) ∙ was.each k below }
-
--- the first fields, then the bytes and then the checksum were written
-pub framed : (first second last : List Bool) (id : ℕ) (bytes : List ℕ) (end to : ℕ) → id < 2 ^ 11 → length bytes ≤ 8 → length last ≡ 40 + 8 * length bytes → HasHeader first id (length bytes)
-    → HasBytes second (length bytes) bytes → ChangesOnly 19 (19 + 8 * length bytes) first second → ChangesOnly end to second last → end ≡ 19 + 8 * length bytes
-    → field last end (end + 15) ≡ crc_of (bits_in second 0 end) → field last (end + 15) (end + 15 + 6) ≡ 0 → IsFrame last id bytes
-framed first second last id bytes end to valid few long header stand behind after at sum filler =
-    let same = after.length in
-    let equal = behind.length in
-    let head = header-kept first second 19 (19 + 8 * length bytes) behind id (length bytes) header (omega arith) (omega arith) in
-    let sealed : IsSealed last end = record { checksum_is = sum ∙ ap crc_of (sym (bits-unchanged second last end to 0 end after (omega arith) (inl (omega arith)))); filler_is = filler } in
-    record {
-      valid = valid;
-      few = few;
-      long = long;
-      header = header-kept second last end to after id (length bytes) head (omega arith) (omega arith);
-      stand = bytes-kept second last end to after (length bytes) bytes stand (omega arith) (omega arith);
-      sealed = rw at at sealed;
-    }
+-- its parts make a frame
+pub framed : (bits : List Bool) (id : ℕ) (bytes : List ℕ) (end : ℕ) → id < 2 ^ 11 → length bytes ≤ 8 → length bits ≡ 40 + 8 * length bytes → HasHeader bits id (length bytes) → HasBytes bits (length bytes) bytes
+    → IsSealed bits end → end ≡ 19 + 8 * length bytes → IsFrame bits id bytes
+framed bits id bytes end valid few long header stand sealed at = record { valid = valid; few = few; long = long; header = header; stand = stand; sealed = rw at at sealed }
 
 -- ---- one frame, or none
 

@@ -1,5 +1,5 @@
 //! Frames in bits.
-ghost use Rattle.std.specs.Prelude.{◌≡◌, ◌+◌, ◌*◌, ◌^◌, ◌<◌, ◌≤◌, ◌↔◌, ◌⊎◌, IfErr, IfNone, IfOk, IfSome, IsOk, IsTrue, OnErr, OnOk, length};
+ghost use Rattle.std.specs.Prelude.{◌≡◌, ℕ, ◌+◌, ◌*◌, ◌^◌, ◌<◌, ◌≤◌, ◌↔◌, ◌⊎◌, IfErr, IfNone, IfOk, IfSome, IsOk, IsTrue, List, OnErr, OnOk, length};
 ghost use Rattle.bitvec.specs.Arrays.{msb0_bits};
 ghost use Rattle.bitvec.specs.Cursors.{elements_of, lender_of, writing};
 ghost use Rattle.bitvec.specs.Ranges.{ChangesOnly, bits_in};
@@ -50,6 +50,7 @@ fn put_header(writer: &mut Writer<'_>, id: u16, count: usize) -> Result<(), Curs
 #[tactic(auto, using(bitvec::specs::Laws::fields, bitvec::specs::Laws::bitwise))]
 fn put_bytes(writer: &mut Writer<'_>, bytes: &[u8]) -> Result<(), CursorError>
     requires start { (writing writer.old).position ≡ 19 }
+    ensures header { OnOk result ((id count : ℕ) → HasHeader (writing writer.old).bits id count → HasHeader (writing writer.new).bits id count) }
     ensures bytes { OnOk result (HasBytes (writing writer.new).bits (length bytes.now) bytes.now) }
     ensures position { OnOk result ((writing writer.new).position ≡ 19 + 8 * length bytes.now) }
     ensures outside { OnOk result (ChangesOnly 19 (19 + 8 * length bytes.now) (writing writer.old).bits (writing writer.new).bits) }
@@ -75,15 +76,17 @@ fn checksum_of(writer: &Writer<'_>) -> u16
 /// Writes the checksum of all bits that were written, and zeros to fill the byte; every other bit stays.
 #[tactic(auto, using(bitvec::specs::Laws::cursors))]
 fn put_checksum(writer: &mut Writer<'_>) -> Result<(), CursorError>
-    ensures checksum { OnOk result (field (writing writer.new).bits (writing writer.old).position ((writing writer.old).position + 15) ≡ crc_of (bits_in (writing writer.old).bits 0 (writing writer.old).position)) }
-    ensures filler { OnOk result (field (writing writer.new).bits ((writing writer.old).position + 15) ((writing writer.old).position + 15 + 6) ≡ 0) }
-    ensures outside { ChangesOnly (writing writer.old).position (writing writer.new).position (writing writer.old).bits (writing writer.new).bits }
+    requires behind { 19 ≤ (writing writer.old).position }
+    ensures header { OnOk result ((id count : ℕ) → HasHeader (writing writer.old).bits id count → HasHeader (writing writer.new).bits id count) }
+    ensures bytes { OnOk result ((count : ℕ) (bytes : List ℕ) → HasBytes (writing writer.old).bits count bytes → 19 + 8 * count ≤ (writing writer.old).position → HasBytes (writing writer.new).bits count bytes) }
+    ensures sealed { OnOk result (IsSealed (writing writer.new).bits (writing writer.old).position) }
     ensures refused { OnErr result (length (writing writer.old).bits < (writing writer.old).position + 21) }
     ensures len { length (elements_of writer.new) ≡ length (elements_of writer.old) }
     ensures name { lender_of writer.new ≡ lender_of writer.old }
 {
     let checksum = checksum_of(writer);
-    writer.put_row(&[(15, u64::from(checksum)), (6, 0)])?;
+    writer.put(checksum, 15)?;
+    writer.put(0u8, 6)?;
     Ok(())
 }
 

@@ -10,5 +10,7 @@ returns-clause-frame c =
     let put = c.in_ok-put_bytes.ensures in
     let closed = c.in_ok-put_checksum.ensures in
     let at = put.position in
-    let is = framed _ _ _ c.args.id c.args.bytes.now _ _ c.requires.valid c.requires.few (grind (arith, common_steps, sized)) header.header put.bytes put.outside closed.outside at closed.checksum closed.filler in
+    let bytes = c.args.bytes.now in
+    let stand = closed.bytes _ bytes put.bytes (omega arith) in
+    let is = framed _ c.args.id bytes _ c.requires.valid c.requires.few (grind (arith, common_steps, sized)) (closed.header _ _ (put.header _ _ header.header)) stand closed.sealed at in
     grind (arith, common_steps, is)
