@@ -214,8 +214,8 @@ fn windows_of_cells(seen: &mut Seen) {
     each!(on_two_cells seen (engine::) [Lsb0, Msb0, _, _] [BitOp::Or]; bits_op);
     each!(on_two_cells seen (engine::) [HiLo, _, _] []; elements_copy elements_swap elements_eq starts_with ends_with contains);
     each!(on_two_cells seen (engine::) [HiLo, _, _] [BitOp::Or]; elements_op);
-    each!(on_two_cells seen (engine::lsb0::) [_, _] []; block_copy block_swap block_eq);
-    each!(on_two_cells seen (engine::lsb0::) [_, _] [BitOp::Or]; block_op);
+    each!(on_two_cells seen (engine::word_steps::) [Lsb0, _, _] []; block_copy block_swap block_eq);
+    each!(on_two_cells seen (engine::word_steps::) [Lsb0, _, _] [BitOp::Or]; block_op);
     refused!(seen;
         get_bit(|bytes| engine::get_bit::<Lsb0, _>(&mut cells(bytes), IN, 20));
         replace_bit(|bytes| engine::replace_bit::<Lsb0, _>(&mut cells(bytes), IN, 20, true));
@@ -227,8 +227,8 @@ fn windows_of_cells(seen: &mut Seen) {
         shift_end(|bytes| engine::shift_end::<Lsb0, _>(&mut cells(bytes), IN, 21));
         bits_copy_within(|bytes| engine::bits_copy_within::<Lsb0, _>(&mut cells(bytes), OUT, 0, 1, 2));
         bits_copy_within(|bytes| engine::bits_copy_within::<Lsb0, _>(&mut cells(bytes), IN, 9, 21, 0));
-        block_copy_within(|bytes| engine::msb0::block_copy_within(&mut cells(bytes), OUT, 0, 1, 2));
-        block_copy_within(|bytes| engine::msb0::block_copy_within(&mut cells(bytes), IN, 2, 1, 0));
+        block_copy_within(|bytes| engine::word_steps::block_copy_within::<Msb0, _>(&mut cells(bytes), OUT, 0, 1, 2));
+        block_copy_within(|bytes| engine::word_steps::block_copy_within::<Msb0, _>(&mut cells(bytes), IN, 2, 1, 0));
         words_reverse(|bytes| words::reverse::<Lsb0, _>(&mut cells(bytes), OUT));
         block_reverse(|bytes| Lsb0::block_reverse(&mut cells(bytes), OUT));
         find_first(|bytes| Lsb0::find_first(&mut cells(bytes), OUT, true));

@@ -4,7 +4,7 @@ use Rattle.std.proofs.Common.{arith, rules, subst, sym, ◌∙◌, ap}
 use Rattle.std.proofs.Math.Nat.{mul-le-mul_left}
 use Rattle.std.proofs.lemmas.List.{places, same_lists}
 use Rattle.std.proofs.lemmas.Nat.{div-add-mod'}
-use Rattle.bitvec_engine.specs.Pairs.{HasPair}
+use Rattle.bitvec_passes.specs.Pairs.{HasPair}
 use Rattle.bitvec_words.specs.WordLaws.{word_whole}
 use Rattle.bitvec_words.specs.CombinedLaws.{combined-range}
 use Rattle.bitvec_words.specs.Elements.{elements_window, elements_window_from}

@@ -2,7 +2,7 @@
 use Rattle.std.specs.Prelude.{◌≡◌, ℕ, ◌-◌, ◌<◌, ◌≤◌, Bool, List, length, slice_range, take, refl}
 use Rattle.std.proofs.Common.{arith, sym, ◌∙◌, ap, subst}
 use Rattle.bitvec_engine.specs.Direction.{Agrees}
-use Rattle.bitvec_engine.specs.Pairs.{HasPair}
+use Rattle.bitvec_passes.specs.Pairs.{HasPair}
 use Rattle.bitvec_base.specs.declared.window.Window.{Window}
 use Rattle.bitvec_base.specs.Memory.{HasWindow, Writes, element_bits, list_in}
 use Rattle.bitvec_base.specs.Window.{window_range, write_window}

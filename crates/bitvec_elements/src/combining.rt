@@ -10,7 +10,8 @@ use crate::converting::combine_converted;
 use crate::recutting::hold;
 use bitvec_base::{BitOrder, Window};
 use bitvec_cells::{Exclusive, Shared};
-use bitvec_engine::{SliceOrder, bits_op};
+use bitvec_engine::SliceOrder;
+use bitvec_passes::bits_op;
 use bitvec_store::BitStore;
 use bitvec_words::{BitOp, WORD_BITS, WordOrder};
 

@@ -2,7 +2,7 @@
 #![tactic(auto, using(crate::proofs::Directions::by_direction, crate::proofs::StoreLemmas::ranged))]
 
 ghost use Rattle.std.specs.Prelude.{◌≡◌, ◌≤◌, map};
-ghost use Rattle.bitvec_engine.specs.Pairs.{HasPair};
+ghost use Rattle.bitvec_passes.specs.Pairs.{HasPair};
 ghost use Rattle.bitvec_base.specs.Memory.{HasWindow, Writes, list_in};
 ghost use Rattle.bitvec_base.specs.Spans.{HasSpan};
 ghost use Rattle.bitvec_words.specs.Moves.{Copies};
@@ -13,7 +13,8 @@ use crate::recutting::recut;
 use crate::window_words::{few_word, window_word};
 use bitvec_base::{BitOrder, Window};
 use bitvec_cells::{Exclusive, Shared};
-use bitvec_engine::{SliceOrder, bits_copy, direction_of, store_few};
+use bitvec_engine::{SliceOrder, direction_of};
+use bitvec_passes::{bits_copy, store_few};
 use bitvec_store::BitStore;
 use bitvec_words::{WORD_BITS, WordOrder, load_short, store_short};
 

@@ -2,7 +2,7 @@
 #![tactic(auto, using(crate::proofs::Directions::by_direction, crate::proofs::StoreLemmas::ranged))]
 
 ghost use Rattle.std.specs.Prelude.{◌≡◌, ◌+◌, ◌-◌, ◌*◌, ◌%◌, ◌<◌, ◌≤◌, length, map};
-ghost use Rattle.bitvec_engine.specs.Pairs.{HasPair};
+ghost use Rattle.bitvec_passes.specs.Pairs.{HasPair};
 ghost use Rattle.bitvec_base.specs.Memory.{HasWindow, Writes, list_in};
 
 use crate::copying::copy_words;

@@ -2,14 +2,15 @@
 #![tactic(auto, using(crate::proofs::Directions::by_direction, crate::proofs::StoreLemmas::ranged))]
 
 ghost use Rattle.std.specs.Prelude.{◌≡◌, ◌≤◌, map};
-ghost use Rattle.bitvec_engine.specs.Pairs.{HasPair};
+ghost use Rattle.bitvec_passes.specs.Pairs.{HasPair};
 ghost use Rattle.bitvec_base.specs.Memory.{HasWindow, Writes, list_in};
 
 use crate::copying::copy_from_in;
 use crate::recutting::hold;
 use bitvec_base::{BitOrder, Window};
 use bitvec_cells::Exclusive;
-use bitvec_engine::{SliceOrder, bits_swap};
+use bitvec_engine::SliceOrder;
+use bitvec_passes::bits_swap;
 use bitvec_store::BitStore;
 use bitvec_words::WordOrder;
 

@@ -1,5 +1,3 @@
 pub mod Direction
-pub mod Ends
-pub mod Pairs
 pub mod WordSteps
 pub mod WordStepsLaws

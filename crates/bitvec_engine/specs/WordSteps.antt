@@ -1,16 +1,8 @@
 -- What word steps may take, where a step is about 64 bits.
-use Rattle.std.specs.Prelude.{ℕ, ◌+◌, ◌-◌, ◌*◌}
+use Rattle.std.specs.Prelude.{ℕ, ◌+◌, ◌*◌}
 use Rattle.std.specs.Int.{div_ceil}
 use Rattle.bitvec_cells.specs.declared.cells.CellsRead.{Ghosts as Access}
 use Rattle.bitvec_cells.specs.Access.{CostsAtMost, OnlyReadsAtMost}
-
--- The number of the bit at an index of an element of `b` bits under `Lsb0`: the least significant bit comes first.
-abbrev pub lsb0_at : ℕ → ℕ → ℕ
-lsb0_at b i = i
-
--- The number of the bit at an index of an element of `b` bits under `Msb0`: the most significant bit comes first.
-abbrev pub msb0_at : ℕ → ℕ → ℕ
-msb0_at b i = b - 1 - i
 
 -- The greatest number of elements of `b` bits that 64 consecutive bits can touch.
 abbrev pub word_span : ℕ → ℕ

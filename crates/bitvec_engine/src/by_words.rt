@@ -4,12 +4,12 @@
 
 ghost use Rattle.std.specs.Prelude.{refl, true};
 
-use crate::reversing::words_reverse;
 use crate::slice_order::{ByWords, SliceOrder};
 use bitvec_base::{Lsb0, Msb0, Window};
 use bitvec_cells::{Cells, CellsRead};
 use bitvec_combine::{combine, copy, equal};
 use bitvec_move::{copy_within, swap};
+use bitvec_passes::words_reverse;
 use bitvec_words::{BitOp, WordOrder, reversed, words_load_front, words_scan_first};
 
 /// The orders that work by words here. An order of another crate says itself how it works.
@@ -101,6 +101,10 @@ impl<O: InWords> SliceOrder for O {
     }
 }
 
-impl<O: InWords> ByWords for O {
+impl ByWords for Lsb0 {
+    ghost words_law = { refl };
+}
+
+impl ByWords for Msb0 {
     ghost words_law = { refl };
 }

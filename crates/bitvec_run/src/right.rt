@@ -80,7 +80,7 @@ where
         }
         Op::Cmp(window) => {
             let other = inside(source, window);
-            Reply::Order(bitvec_engine::compare::<O, O, C, D>(cells, target, right, other))
+            Reply::Order(bitvec_passes::compare::<O, O, C, D>(cells, target, right, other))
         }
         Op::StartsWith(window) => {
             Reply::Bit(starts_with::<O, C, D>(cells, target, right, inside(source, window)))

@@ -4,7 +4,7 @@ ghost use Rattle.bitvec_base.specs.Memory.{HasWindow, Writes, element_bits};
 
 use bitvec_base::Window;
 use bitvec_cells::Exclusive;
-use bitvec_engine::store_few;
+use bitvec_passes::store_few;
 use bitvec_store::BitStore;
 use bitvec_words::{WORD_BITS, WordOrder};
 

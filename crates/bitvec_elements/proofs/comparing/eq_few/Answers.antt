@@ -1,6 +1,6 @@
 use Rattle.std.proofs.Common.{◌∙◌, arith, sym}
 use Rattle.bitvec_base.specs.WritesLaws.{length-list}
-use Rattle.bitvec_engine.proofs.FewLemmas.{same-words}
+use Rattle.bitvec_passes.proofs.FewLemmas.{same-words}
 use Rattle.bitvec_elements.proofs.comparing.eq_few.Goals as goal
 
 pub returns : goal.returns

@@ -1,5 +1,5 @@
 use Rattle.std.proofs.Common.{arith}
-use Rattle.bitvec_engine.proofs.FewLemmas.{word-ones}
+use Rattle.bitvec_passes.proofs.FewLemmas.{word-ones}
 use Rattle.bitvec_elements.proofs.counting.count_few.Goals as goal
 
 pub returns : goal.returns

@@ -1,4 +1,4 @@
-use Rattle.bitvec_engine.proofs.FewLemmas.{padded-word}
+use Rattle.bitvec_passes.proofs.FewLemmas.{padded-word}
 use Rattle.bitvec_elements.proofs.window_words.few_word.Goals as goal
 
 pub returns : goal.returns

@@ -4,7 +4,7 @@ use Rattle.bitvec_base.specs.MemoryLaws.{length-element_bits}
 use Rattle.bitvec_base.specs.PartLaws.{element-none}
 use Rattle.bitvec_words.specs.ShortWindow.{padded}
 use Rattle.bitvec_words.specs.MovedLaws.{padded-none}
-use Rattle.bitvec_engine.proofs.WordLemmas.{eights-all, eights-next, eights-none, eights-whole}
+use Rattle.bitvec_passes.proofs.WordLemmas.{eights-all, eights-next, eights-none, eights-whole}
 use Rattle.bitvec_elements.proofs.window_words.gathered_part.Goals as goal
 
 pub loop-step-init : goal.loop-step-init

@@ -6,7 +6,7 @@ use Rattle.bitvec_store.specs.WidthLaws.{width_some}
 use Rattle.bitvec_cells.specs.WalkLaws.{Walked-start, Walked-next, first-len, passed-none}
 use Rattle.bitvec_words.specs.ShortWindow.{padded}
 use Rattle.bitvec_words.specs.MovedLaws.{padded-none}
-use Rattle.bitvec_engine.proofs.WordLemmas.{gathered-next}
+use Rattle.bitvec_passes.proofs.WordLemmas.{gathered-next}
 use Rattle.bitvec_elements.proofs.window_words.gathered_word.Goals as goal
 
 pub loop-rest-init : goal.loop-rest-init

@@ -1,0 +1,5 @@
+pub mod CompareLemmas
+pub mod FewLemmas
+pub mod MirroredLemmas
+pub mod ReversalLemmas
+pub mod WordLemmas
