@@ -19,7 +19,7 @@ class Notion:
 NOTIONS = [
     Notion("elements", "Elements and orders", "The unsigned integers that a memory is made of, and which of their bits comes first.",
            "bitvec_store bitvec_base/{order,hi_lo,lsb0,msb0,ones,Order,OrderLaws,HiLoLaws,MaskLaws} bitvec_words/word_order bitvec_engine/{slice_order,order_direction}"
-           " bitvec_engine/Direction bitvec_segments/field_order", "VIEWS.md"),
+           " bitvec_engine/Direction bitvec_numbers/field_order", "VIEWS.md"),
     Notion("memory", "Memories and windows", "The bits of a slice of elements as one list, windows of it, and what a write leaves.", "bitvec_base"),
     Notion("lists", "Words and laws of lists", "What contracts say of lists of bits: counts, places, rotations, shifts, copies, writes of a part.",
            "bitvec_base/{Lists,ListsLaws,Counts,CountLaws,CountedLaws,CompareLaws,CopyLaws,FillLaws,FilledLaws,FoundLaws,LeadingLaws,LengthLaws,NeedleLaws"
@@ -30,7 +30,7 @@ NOTIONS = [
            " bitvec/{OwnViews,OwnViewsLaws,Types}", "VIEWS.md"),
     Notion("domains", "Domains", "The elements that a view touches, and a view cut at their edges.",
            "bitvec_domain bitvec_slice/{bit_domain,bit_parts,BitParts,Domains,DomainsLaws,Touched,TouchedLaws} bitvec/Domains"),
-    Notion("questions", "Questions", "What a view is asked: counts, places, walks over the ones and zeros.", "bitvec_query bitvec/PlacedLaws", "VIEWS.md"),
+    Notion("questions", "Questions", "What a view is asked: counts, places, walks over the ones and zeros.", "bitvec_places bitvec_query bitvec/PlacedLaws", "VIEWS.md"),
     Notion("edits", "Edits", "What changes the bits of a view, and what stays beside them.",
            "bitvec_edit bitvec_slice/{Writes,WriteLaws,KeptLaws,transfers,operators,writing} bitvec/ComposedLaws", "VIEWS.md"),
     Notion("closures", "Closures", "Edits by closures: of elements, of pieces one after the other, of a split's parts; and what a closure was asked.",
@@ -43,7 +43,7 @@ NOTIONS = [
            " bitvec_iter/{lent_bits,lent_calls,lent_halves,lent_next,lent_next_bits,lent_pieces,lent_remainders,lent_texts,BitsLending,HalvesLending"
            ",LentBits,LentPieces,LentWalk,PiecesLending} bitvec_split/{lending,lent_texts,Lent,LentViews,SplitsLending}"
            " bitvec_owned/{Lending,ArrayLending}", "LENDS.md"),
-    Notion("numbers", "Numbers", "Integers in the bits of a view, from either end.", "bitvec_segments bitvec_field bitvec/{NumberSidesLaws,SeamlessLaws,FlagLaws}", "NUMBERS.md"),
+    Notion("numbers", "Numbers", "Integers in the bits of a view, from either end.", "bitvec_segments bitvec_numbers bitvec_field bitvec/{NumberSidesLaws,SeamlessLaws,FlagLaws}", "NUMBERS.md"),
     Notion("arrays", "Arrays in place", "Functions over a slice of elements and a range of its bits, which tell the array afterwards.",
            "bitvec_in_place bitvec/{Arrays,ChangesLaws,FoundLaws}", "ARRAYS.md"),
     Notion("cursors", "Cursors", "Numbers and bits read and written one after the other.", "bitvec_in_place/{reader,writer,cursor_error,Cursors,Rooms,Rows} bitvec/{ListNumbersLaws,RowsLaws}", "NUMBERS.md"),
@@ -53,7 +53,7 @@ NOTIONS = [
     Notion("access", "Counted access and costs", "Access to the elements of a memory that counts loads and stores, and what an operation may take.",
            "bitvec_cells bitvec_engine/{WordSteps,WordStepsLaws}"),
     Notion("memories", "Operations on memories", "The operations through counted access, by words where the order has them.",
-           "bitvec_words bitvec_move bitvec_combine bitvec_engine"),
+           "bitvec_words bitvec_move bitvec_combine bitvec_passes bitvec_engine"),
     Notion("slices", "Operations on slices", "The operations on windows of slices of elements, which views call.", "bitvec_elements bitvec_within"),
 ]
 SETS = Notion("sets", "Sets of laws", "What a function names by `using`: `#[tactic(auto, using(bitvec::specs::Laws::found))]`.", "", "PROOFS.md")

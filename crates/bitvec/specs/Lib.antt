@@ -43,7 +43,7 @@ pub use Rattle.bitvec_edit.specs.UndoLaws
 pub use Rattle.bitvec_field.specs.Fields
 pub use Rattle.bitvec_field.specs.DomainParts
 pub use Rattle.bitvec_field.specs.DomainPartsLaws
-pub use Rattle.bitvec_segments.specs.Integers
+pub use Rattle.bitvec_numbers.specs.Integers
 pub use Rattle.bitvec_field.specs.IntegersLaws
 pub use Rattle.bitvec_in_place.specs.ChangesLaws
 pub use Rattle.bitvec_in_place.specs.Cursors
@@ -69,9 +69,9 @@ pub use Rattle.bitvec_iter.specs.Halves
 pub use Rattle.bitvec_iter.specs.LentPieces
 pub use Rattle.bitvec_iter.specs.LentWalk
 pub use Rattle.bitvec_query.specs.Indices as OnesLeft
-pub use Rattle.bitvec_query.specs.Loads
-pub use Rattle.bitvec_query.specs.Places
-pub use Rattle.bitvec_query.specs.Turns
+pub use Rattle.bitvec_places.specs.Loads
+pub use Rattle.bitvec_places.specs.Places
+pub use Rattle.bitvec_places.specs.Turns
 pub use Rattle.bitvec_owned.specs.AroundLaws
 pub use Rattle.bitvec_owned.specs.Arrays as BitArrays
 pub use Rattle.bitvec_owned.specs.Copies

@@ -8,5 +8,5 @@ pub use bitvec_passes::{
     bits_copy, bits_copy_within, bits_eq, bits_op, bits_reverse, bits_swap, compare, elements_copy,
     elements_eq, elements_op, elements_swap,
 };
-pub use bitvec_query::{End, Rest, count_left, scan_turns, take_first, take_last};
+pub use bitvec_places::{End, Rest, count_left, scan_turns, take_first, take_last};
 pub use bitvec_words::{BitOp, bits_scan_first, bits_scan_last, count, count_zeros, fill, invert};

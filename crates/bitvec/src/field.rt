@@ -1,3 +1,3 @@
 //! Integers in views.
 pub use bitvec_field::{BitField, BitFieldMut, Integral};
-pub use bitvec_segments::FieldOrder;
+pub use bitvec_numbers::FieldOrder;

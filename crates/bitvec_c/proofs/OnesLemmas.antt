@@ -8,7 +8,7 @@ use Rattle.bitvec_base.specs.declared.window.Window.{Window}
 use Rattle.bitvec_base.specs.Lists.{places_of}
 use Rattle.bitvec_base.specs.Memory.{HasWindow, list_in}
 use Rattle.bitvec_base.specs.WritesLaws.{length-list}
-use Rattle.bitvec_query.specs.Places.{places_in}
+use Rattle.bitvec_places.specs.Places.{places_in}
 use Rattle.bitvec_c.specs.Ones.{ones_from}
 
 moved_by : (here : Bool) (f a : ℕ) (rest : List ℕ) → cond here ((f + a) ∷ map (λ i. f + i) rest) (map (λ i. f + i) rest) ≡ map (λ i. f + i) (cond here (a ∷ rest) rest)

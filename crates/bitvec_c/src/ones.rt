@@ -7,7 +7,7 @@ ghost use Rattle.bitvec_c.specs.Ones.{Lists, ones_from};
 use bitvec_base::{Lsb0, Msb0, Window};
 use bitvec_checked::{DONE, LSB0, end_status, or_next, window_status};
 use bitvec_engine::SliceOrder;
-use bitvec_query::write_places;
+use bitvec_places::write_places;
 use bitvec_store::BitStore;
 use bitvec_words::WordOrder;
 

@@ -8,7 +8,7 @@ ghost use Rattle.bitvec_checked.specs.Statuses.{bits_from};
 use crate::status::{or_next, width_status, window_status};
 use bitvec_base::Window;
 use bitvec_cells::{Exclusive, Shared};
-use bitvec_segments::FieldOrder;
+use bitvec_numbers::FieldOrder;
 use bitvec_store::BitStore;
 
 /// The number of the bits of a window, the first segment lowest.

@@ -12,7 +12,7 @@ use bitvec_cells::{Cells, CellsRead, Exclusive, Shared};
 use bitvec_checked::{DONE, LSB0, memories_status, or_next};
 use bitvec_engine::SliceOrder;
 use bitvec_run::{carry_out_field, whole};
-use bitvec_segments::FieldOrder;
+use bitvec_numbers::FieldOrder;
 use bitvec_store::BitStore;
 
 /// A step has the number of no operation.

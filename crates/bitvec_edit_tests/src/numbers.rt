@@ -3,7 +3,7 @@ ghost use Rattle.std.specs.Prelude.{◌≤◌};
 
 use bitvec_base::{Lsb0, Msb0};
 use bitvec_field::{BitField, BitFieldMut, Integral};
-use bitvec_segments::FieldOrder;
+use bitvec_numbers::FieldOrder;
 use bitvec_slice::{BitSlice, BitSliceMut};
 
 /// The number of the bits 4 up to 12, `le` or else `be`.

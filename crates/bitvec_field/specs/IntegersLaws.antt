@@ -2,7 +2,7 @@
 use Rattle.std.specs.Prelude.{◌≡◌, ℕ, ◌+◌, ◌-◌, ◌*◌, ◌/◌, ◌%◌, ◌^◌, ◌<◌, ◌≤◌, ℤ, pos, negsuc}
 use Rattle.std.proofs.Common.{arith, ◌∙◌, ap}
 use Rattle.std.proofs.lemmas.Nat.{mod-mul-add, mod-pow-add, mod_below, pow-add, pow_pos}
-use Rattle.bitvec_segments.specs.Integers.{remainder_of}
+use Rattle.bitvec_numbers.specs.Integers.{remainder_of}
 
 -- the number of the low n of j + n bits
 low_bits : (v j n : ℕ) → v % 2 ^ (j + n) % 2 ^ n ≡ v % 2 ^ n

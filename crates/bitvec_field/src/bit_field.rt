@@ -1,6 +1,6 @@
 //! `bitvec`'s `BitField`, its loads and its stores.
 ghost use Rattle.std.specs.Prelude.{◌≡◌, ℕ, ◌<◌, ◌≤◌};
-ghost use Rattle.bitvec_segments.specs.Integers.{integer_of, remainder_of};
+ghost use Rattle.bitvec_numbers.specs.Integers.{integer_of, remainder_of};
 
 use crate::Integral;
 

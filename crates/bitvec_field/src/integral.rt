@@ -1,6 +1,6 @@
 //! The integers that a window is loaded as, and that are stored in one.
 ghost use Rattle.std.specs.Prelude.{◌≡◌, ℕ, ◌^◌, ◌<◌, ◌≤◌, Bool, ℤ};
-ghost use Rattle.bitvec_segments.specs.Integers.{integer_of, remainder_of};
+ghost use Rattle.bitvec_numbers.specs.Integers.{integer_of, remainder_of};
 
 /// An integer that is loaded from bits and stored in bits: `bitvec`'s `funty::Integral`, as far as
 /// `BitField` needs it.

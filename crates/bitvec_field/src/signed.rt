@@ -3,7 +3,7 @@ ghost use Rattle.std.specs.Prelude.{true};
 ghost use Rattle.std.proofs.Common.{rules};
 
 use crate::Integral;
-use bitvec_segments::{extended, reduced};
+use bitvec_numbers::{extended, reduced};
 
 impl Integral for i8 {
     ghost BITS = { 8 };

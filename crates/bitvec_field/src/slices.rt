@@ -1,13 +1,13 @@
 //! Integers in windows of borrowed slices of elements.
 ghost use Rattle.std.specs.Prelude.{◌≡◌, ◌<◌, ◌≤◌, map};
 ghost use Rattle.bitvec_base.specs.Memory.{Edits, HasWindow, list_in};
-ghost use Rattle.bitvec_segments.specs.Integers.{integer_of, remainder_of};
+ghost use Rattle.bitvec_numbers.specs.Integers.{integer_of, remainder_of};
 ghost use Rattle.bitvec_segments.specs.Segments.{loaded_be, loaded_le, stored_be, stored_le};
 
 use crate::Integral;
 use bitvec_base::Window;
 use bitvec_cells::{Exclusive, Shared};
-use bitvec_segments::FieldOrder;
+use bitvec_numbers::FieldOrder;
 use bitvec_store::BitStore;
 
 /// The integer of a window's bits, the first segment lowest. Condition: the memory has at most

@@ -4,7 +4,7 @@ ghost use Rattle.bitvec_slice.specs.Views.{seen, seen_mut};
 
 use crate::slices::{load_be_in, load_le_in, store_be_in, store_le_in};
 use crate::{BitField, BitFieldMut, Integral};
-use bitvec_segments::FieldOrder;
+use bitvec_numbers::FieldOrder;
 use bitvec_slice::{BitSlice, BitSliceMut, Sealed, ViewMut};
 use bitvec_store::BitStore;
 

@@ -5,7 +5,7 @@ use Rattle.bitvec_in_place.specs.FrontLaws.{front-range, inserted-is, removed-is
 use Rattle.bitvec_in_place.specs.MovedLaws.{length-bits_of}
 use Rattle.bitvec_in_place.specs.RangeBitsLaws.{bits_in-range}
 use Rattle.bitvec_in_place.specs.Ranges.{number_in}
-use Rattle.bitvec_segments.specs.Integers.{integer_of}
+use Rattle.bitvec_numbers.specs.Integers.{integer_of}
 use Rattle.bitvec_segments.specs.LoadLaws.{loaded-none}
 use Rattle.bitvec_segments.specs.PlainLaws.{loaded-plain, loaded_be-plain, loaded_le-plain}
 use Rattle.bitvec_segments.specs.Segments.{loaded, segment_number}

@@ -2,13 +2,13 @@
 #![tactic(auto, using(crate::proofs::Windows::ranges))]
 
 ghost use Rattle.std.specs.Prelude.{◌≡◌, ◌+◌, ◌-◌, ◌<◌, ◌≤◌, false, length, map, true};
-ghost use Rattle.bitvec_segments.specs.Integers.{integer_of, remainder_of};
+ghost use Rattle.bitvec_numbers.specs.Integers.{integer_of, remainder_of};
 ghost use Rattle.bitvec_base.specs.Memory.{memory_bits};
 ghost use Rattle.bitvec_in_place.specs.Ranges.{HasBits, number_in, numbered};
 
 use crate::spans::span_in;
 use bitvec_field::{Integral, load_be_in, load_le_in, store_be_in, store_le_in};
-use bitvec_segments::FieldOrder;
+use bitvec_numbers::FieldOrder;
 use bitvec_store::BitStore;
 use std::ops::Range;
 

@@ -1,13 +1,13 @@
 //! A reader of numbers and bits, one behind the other.
 ghost use Rattle.std.specs.Prelude.{◌≡◌, ◌<◌, ◌≤◌, length};
-ghost use Rattle.bitvec_segments.specs.Integers.{integer_of};
+ghost use Rattle.bitvec_numbers.specs.Integers.{integer_of};
 ghost use Rattle.bitvec_segments.specs.Segments.{segment_number};
 ghost use Rattle.bitvec_slice.specs.Views.{seen};
 
 use crate::cursor_error::CursorError;
 use bitvec_base::BitOrder;
 use bitvec_field::{BitField, Integral};
-use bitvec_segments::FieldOrder;
+use bitvec_numbers::FieldOrder;
 use bitvec_slice::BitSlice;
 use bitvec_store::BitStore;
 
@@ -122,7 +122,7 @@ impl<'a, T: BitStore, O: FieldOrder> BitReader<'a, T, O> {
     ghost use Rattle.bitvec_in_place.specs.Cursors.{Answers, KeepsBits, reading};
     ghost use Rattle.bitvec_in_place.specs.Ranges.{number_in};
     ghost use Rattle.bitvec_in_place.specs.declared.cursor_error.CursorError.TheVariants.{Ended};
-    ghost use Rattle.bitvec_segments.specs.Integers.{integer_of};
+    ghost use Rattle.bitvec_numbers.specs.Integers.{integer_of};
 
     /// The integer of the next `width` bits, 0 of none. If fewer are left, it is refused with `Ended`, and the reader
     /// stays. Conditions: `I` has a bit, and `width` is at most `I::BITS`.

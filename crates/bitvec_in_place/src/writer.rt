@@ -9,7 +9,7 @@ use crate::cursor_error::CursorError;
 use crate::numbers::store_plain;
 use bitvec_base::BitOrder;
 use bitvec_field::Integral;
-use bitvec_segments::FieldOrder;
+use bitvec_numbers::FieldOrder;
 use bitvec_slice::BitSlice;
 use bitvec_store::BitStore;
 use std::marker::PhantomData;
@@ -153,7 +153,7 @@ impl<'a, T: BitStore, O: FieldOrder> BitWriter<'a, T, O> {
     ghost use Rattle.bitvec_in_place.specs.Ranges.{ChangesOnly, number_in, numbered};
     ghost use Rattle.bitvec_in_place.specs.Rows.{HasRow, row_len};
     ghost use Rattle.bitvec_in_place.specs.declared.cursor_error.CursorError.TheVariants.{Full};
-    ghost use Rattle.bitvec_segments.specs.Integers.{remainder_of};
+    ghost use Rattle.bitvec_numbers.specs.Integers.{remainder_of};
 
     /// Writes an integer to the next `width` bits; every other bit stays. If it has more bits, its lowest are written. If
     /// fewer are left, it is refused with `Full`, and nothing is written. Condition: `width` is at most `I::BITS`.

@@ -8,11 +8,11 @@ use denote.Struct.Props.{≡_prop}
 use Rattle.bitvec_store.specs.declared.store.BitStore.{Ghosts as Store}
 use Rattle.bitvec_base.specs.declared.order.BitOrder.{Ghosts as Order}
 use Rattle.bitvec_slice.specs.Views.{seen}
-use Rattle.bitvec_query.specs.declared.rest.Rest.{Rest}
-use Rattle.bitvec_query.specs.Places.{IsRestOf}
-use Rattle.bitvec_query.proofs.PlacesLaws.{IsRestOf-prop}
-use Rattle.bitvec_query.specs.Kept.{Keeps}
-use Rattle.bitvec_query.specs.declared.kept.Kept.{Kept}
+use Rattle.bitvec_places.specs.declared.rest.Rest.{Rest}
+use Rattle.bitvec_places.specs.Places.{IsRestOf}
+use Rattle.bitvec_places.proofs.PlacesLaws.{IsRestOf-prop}
+use Rattle.bitvec_places.specs.Kept.{Keeps}
+use Rattle.bitvec_places.specs.declared.kept.Kept.{Kept}
 use Rattle.bitvec_query.specs.declared.places.Places.{Places}
 use Rattle.bitvec_query.specs.declared.wanted.Wanted.{Ghosts as Bits}
 

@@ -5,7 +5,7 @@ use Rattle.std.specs.Iterator.Runs.{YieldsInOrder, YieldsInReverse}
 use Rattle.bitvec_store.specs.declared.store.BitStore.{Ghosts as Store}
 use Rattle.bitvec_base.specs.declared.order.BitOrder.{Ghosts as Order}
 use Rattle.bitvec_slice.specs.Views.{seen}
-use Rattle.bitvec_query.specs.Places.{places_left}
+use Rattle.bitvec_places.specs.Places.{places_left}
 use Rattle.bitvec_query.specs.declared.places.Places.{Places}
 use Rattle.bitvec_query.specs.declared.wanted.Wanted.{Ghosts as Bits}
 

@@ -1,6 +1,1 @@
 pub mod Indices
-pub mod Kept
-pub mod Loads
-pub mod Places
-pub mod Turns
-pub mod WordOnes

@@ -1,17 +1,15 @@
 //! The indices of the bits of a view that are 1, or 0, from both ends.
 ghost use Rattle.std.specs.Prelude.{◌≡◌, ⊤};
 ghost use Rattle.bitvec_slice.specs.Views.{seen};
-ghost use Rattle.bitvec_query.specs.Kept.{Keeps};
-ghost use Rattle.bitvec_query.specs.Places.{IsRestOf};
+ghost use Rattle.bitvec_places.specs.Kept.{Keeps};
+ghost use Rattle.bitvec_places.specs.Places.{IsRestOf};
 
 use crate::IndexWalk;
-use crate::kept::{Kept, sought_first, take_kept};
-use crate::rest::Rest;
-use crate::taking::{count_left, take_last};
 use crate::wanted::{Ones, Wanted, Zeros};
 use bitvec_base::BitOrder;
 use bitvec_cells::Shared;
 use bitvec_engine::SliceOrder;
+use bitvec_places::{Kept, Rest, count_left, sought_first, take_kept, take_last};
 use bitvec_slice::BitSlice;
 use bitvec_store::BitStore;
 use std::alloc::AllocError;
@@ -66,7 +64,7 @@ impl<'a, T: BitStore, O: BitOrder, W: Wanted> Places<'a, T, O, W> {
     ghost use Rattle.bitvec_query.specs.Indices.{RunsInOrder, RunsInReverse, remaining_indices};
 
     /// The indices of all bits of the view that `W` names. `bitvec` has no such call.
-    #[tactic(auto, using(crate::proofs::PlacesLaws::all_places, crate::proofs::PlacesLaws::few_places, crate::proofs::PlacesLaws::places_inside), unfolding(crate::specs::Indices::remaining_indices))]
+    #[tactic(auto, using(bitvec_places::proofs::PlacesLaws::all_places, bitvec_places::proofs::PlacesLaws::few_places, bitvec_places::proofs::PlacesLaws::places_inside), unfolding(crate::specs::Indices::remaining_indices))]
     pub fn new(view: BitSlice<'a, T, O>) -> Self
         ensures indices { remaining_indices result ≡ places_of W.BIT (seen view.entry).bits }
         ensures inside { All (λ index. index < (seen view.entry).window.len) (remaining_indices result) }
@@ -107,7 +105,7 @@ impl<'a, T: BitStore, O: BitOrder, W: Wanted> Default for Places<'a, T, O, W> {
 
     ghost is_default = { λ walk. remaining_indices walk ≡ [] };
 
-    #[tactic(auto, using(crate::proofs::PlacesLaws::no_places))]
+    #[tactic(auto, using(bitvec_places::proofs::PlacesLaws::no_places))]
     fn default() -> Self {
         Places::new(BitSlice::empty())
     }

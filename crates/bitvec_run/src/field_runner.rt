@@ -10,7 +10,7 @@ use crate::{FieldStep, Reply, RunError, whole};
 use bitvec_base::Window;
 use bitvec_cells::{Cells, CellsRead, fits_max_bits, has_window};
 use bitvec_engine::SliceOrder;
-use bitvec_segments::FieldOrder;
+use bitvec_numbers::FieldOrder;
 use bitvec_store::BitStore;
 use std::alloc::Allocator;
 

@@ -10,7 +10,7 @@ use crate::{FieldOp, FieldStep, Refusal, Reply, Step, carry_out};
 use bitvec_base::Window;
 use bitvec_cells::{Cells, CellsRead};
 use bitvec_engine::SliceOrder;
-use bitvec_segments::FieldOrder;
+use bitvec_numbers::FieldOrder;
 use bitvec_store::BitStore;
 
 /// One step of a run in a window, whose right list is the one that `source` holds: it replies, and

@@ -1,4 +1,3 @@
-pub mod Integers
 pub mod LoadLaws
 pub mod NumberLaws
 pub mod PlainLaws

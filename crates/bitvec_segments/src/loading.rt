@@ -18,10 +18,7 @@ use bitvec_words::{WORD_BITS, WordOrder, load_element, load_elements};
 /// Where the segments make one number under the order, the elements of a word are loaded at once, and a window no
 /// longer than an element as an element.
 #[inline(always)]
-pub(crate) fn load<const BIG: bool, O: WordOrder, C: CellsRead>(
-    cells: &mut C,
-    window: Window,
-) -> u128
+pub fn load<const BIG: bool, O: WordOrder, C: CellsRead>(cells: &mut C, window: Window) -> u128
     requires { HasNumber C.Elem.BITS (C.numbers cells.old) window }
     ensures value { result ≡ loaded_in BIG O.HIGH C.Elem.BITS O.at (C.numbers cells.old) window }
     ensures reads { OnlyReads C.CellsRead cells.old cells.new (touched_count C.Elem.BITS window.start window.len) }

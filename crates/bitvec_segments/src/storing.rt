@@ -11,14 +11,10 @@ use bitvec_cells::Cells;
 use bitvec_store::BitStore;
 use bitvec_words::WordOrder;
 
-/// Gives a window the bits for which `load` gives the number, without those of its bits for which the
-/// window is too short. Condition: as for `load`. It stores each element that the window touches once,
+/// Gives a window the bits for which [`load`](crate::load) gives the number, without those of its bits for which the
+/// window is too short. Condition: as for [`load`](crate::load). It stores each element that the window touches once,
 /// loads at most the first and the last, and takes no loop where the window lies in few elements.
-pub(crate) fn store<const BIG: bool, O: WordOrder, C: Cells>(
-    cells: &mut C,
-    window: Window,
-    number: u128,
-)
+pub fn store<const BIG: bool, O: WordOrder, C: Cells>(cells: &mut C, window: Window, number: u128)
     requires { HasNumber C.Elem.BITS (C.numbers cells.old) window }
     ensures writes { StoresIn BIG O.HIGH C.Elem.BITS O.at (C.numbers cells.old) (C.numbers cells.new) window number }
     ensures cost { CostsAtMost C.CellsRead cells.old cells.new (fill_loads window.len) (touched_count C.Elem.BITS window.start window.len) }

@@ -5,8 +5,8 @@ ghost use Rattle.bitvec_base.specs.Memory.{HasWindow};
 use bitvec_base::{HiLo, Lsb0, Window};
 use bitvec_cells::Shared;
 use bitvec_engine::SliceOrder;
-use bitvec_query::End::{Back, Front};
-use bitvec_query::{End, scan_turns};
+use bitvec_places::End::{Back, Front};
+use bitvec_places::{End, scan_turns};
 use bitvec_test_support::Counted;
 
 /// What the turns give of a window of some bytes, in `out`, and how many loads they take.

@@ -1,6 +1,6 @@
 //! The places of a bit, written down from an index on.
 use bitvec_base::{Lsb0, Window};
-use bitvec_query::write_places;
+use bitvec_places::write_places;
 
 /// Whether `count` places of the bits 5 up to 74 are written from the index on, and the four are then these.
 fn writes(want: bool, from: usize, room: usize, count: usize, wanted: &[usize; 4]) -> bool {

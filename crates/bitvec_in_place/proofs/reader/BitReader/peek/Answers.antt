@@ -1,5 +1,5 @@
 use Rattle.std.proofs.Common.{◌≡◌, ℕ, ◌+◌, ◌-◌, Bool, List, ◌∙◌, ap, arith, sym}
-use Rattle.bitvec_segments.specs.Integers.{integer_of}
+use Rattle.bitvec_numbers.specs.Integers.{integer_of}
 use Rattle.bitvec_segments.specs.Segments.{segment_number}
 use Rattle.bitvec_slice.specs.Views.{seen}
 use Rattle.bitvec_in_place.specs.Cursors.{reading}

@@ -1,4 +1,4 @@
-use Rattle.bitvec_query.proofs.KeptLemmas.{kept-ended}
+use Rattle.bitvec_places.proofs.KeptLemmas.{kept-ended}
 use Rattle.bitvec_query.proofs.places.PlacesDoubleEndedIterator.next_back.Goals as goal
 
 pub invariant_of-self : goal.invariant_of-self

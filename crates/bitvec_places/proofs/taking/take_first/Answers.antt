@@ -1,0 +1,27 @@
+use Rattle.std.proofs.Common.{◌+◌, arith, rules}
+use Rattle.std.proofs.Math.Nat.{sub_self}
+use Rattle.bitvec_store.specs.WidthLaws.{width_some}
+use Rattle.bitvec_cells.specs.WalkLaws.{touched-none}
+use Rattle.bitvec_places.proofs.LoadsLaws.{touched-passed}
+use Rattle.bitvec_places.proofs.TakingLemmas.{first-below, first-taken}
+use Rattle.bitvec_places.proofs.taking.take_first.Goals as goal
+
+pub returns-in-Some : goal.returns-in-Some
+returns-in-Some g c =
+    let b = g.C.Elem.BitStore.BITS in
+    let found = rw c.range-left.ensures at c.in-Some.ensures.value in
+    let reads = rw c.range-left.ensures at c.in-Some.ensures.reads in
+    let below = first-below b g.O.BitOrder.at _ c.args.window c.args.rest.now c.args.want c.requires.window c.requires.inside _ found in
+    let passed = touched-passed b c.args.window.start c.args.rest.now.front c.args.rest.now.back c.in-Some.found (width_some _ g.met.C.Elem.BitStore.width_law) below in
+    record {
+      inside = record { order = omega arith; bound = search rules };
+      gives = first-taken b g.O.BitOrder.at _ c.args.window c.args.rest.now c.args.want c.requires.window c.requires.inside _ found;
+      reads = record { numbers = search rules; borrow = search rules; loads = omega arith; stores = search rules };
+    }
+
+pub returns-in-None-clause-reads : goal.returns-in-None-clause-reads
+returns-in-None-clause-reads g c =
+    let reads = rw c.range-left.ensures at c.in-None.ensures.reads in
+    let same = sub_self c.args.rest.now.back in
+    let none = touched-none g.C.Elem.BitStore.BITS (c.args.window.start + c.args.rest.now.back) in
+    record { numbers = search rules; borrow = search rules; loads = rw same (omega arith); stores = search rules }

@@ -1,9 +1,0 @@
-use Rattle.std.proofs.Common.{◌-◌}
-use Rattle.bitvec_query.proofs.WrittenLemmas.{WrittenOnes}
-use Rattle.bitvec_query.proofs.writing.write_all.Given as goal
-
-abbrev pub invariant-loop-ones : goal.invariant-loop-ones
-invariant-loop-ones l = WrittenOnes l.base l.fn.ones l.fn.indices l.indices l.count l.ones
-
-abbrev pub decreases-loop-ones : goal.decreases-loop-ones
-decreases-loop-ones l = 64 - l.count
