@@ -37,11 +37,11 @@ NOTIONS = [
            "bitvec_closures bitvec_domain/{Asked,AskedLaws,Predicates,PredicatesLaws,Refill,RefillLaws,Kept,answering,Arity,Steps,Through} bitvec/ClosureLaws", "LENDS.md"),
     Notion("walks", "Walks", "Iterators over the bits of a view, and over pieces of it.",
            "bitvec_iter bitvec_cutting bitvec_slice/{iter,iterating,bit_iters,walk_texts,Walks,WalkLaws,NthLaws}", "WALKS.md"),
-    Notion("splits", "Splits", "Iterators over the parts of a view between the bits that a predicate picks.", "bitvec_split", "SPLITS.md"),
+    Notion("splits", "Splits", "Iterators over the parts of a view between the bits that a predicate picks.", "bitvec_split bitvec_lent_split", "SPLITS.md"),
     Notion("lends", "Lends", "What a lender is after it lent a part, a bit or a piece, and has it back.",
            "bitvec_slice/{lenders,lent,lent_indices,Lending,LentLaws,MayLend} bitvec_domain/{Lender,PartLender}"
            " bitvec_iter/{lent_bits,lent_calls,lent_halves,lent_next,lent_next_bits,lent_pieces,lent_remainders,lent_texts,BitsLending,HalvesLending"
-           ",LentBits,LentPieces,LentWalk,PiecesLending} bitvec_split/{lending,lent_texts,Lent,LentViews,SplitsLending}"
+           ",LentBits,LentPieces,LentWalk,PiecesLending} bitvec_lent_split/{lending,lent_texts,Lent,LentViews,SplitsLending}"
            " bitvec_owned/{Lending,ArrayLending}", "LENDS.md"),
     Notion("numbers", "Numbers", "Integers in the bits of a view, from either end.", "bitvec_segments bitvec_numbers bitvec_field bitvec/{NumberSidesLaws,SeamlessLaws,FlagLaws}", "NUMBERS.md"),
     Notion("arrays", "Arrays in place", "Functions over a slice of elements and a range of its bits, which tell the array afterwards.",

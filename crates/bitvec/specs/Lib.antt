@@ -116,9 +116,9 @@ pub use Rattle.bitvec_slice.specs.Walks as BitWalks
 pub use Rattle.bitvec_slice.specs.Writes
 pub use Rattle.bitvec_domain.specs.Predicates as SplitAsked
 pub use Rattle.bitvec_domain.specs.PredicatesLaws as SplitAskedLaws
-pub use Rattle.bitvec_split.specs.FoundLaws as SplitFoundLaws
-pub use Rattle.bitvec_split.specs.Lent as SplitLent
-pub use Rattle.bitvec_split.specs.LentViews as SplitLentViews
+pub use Rattle.bitvec_lent_split.specs.FoundLaws as SplitFoundLaws
+pub use Rattle.bitvec_lent_split.specs.Lent as SplitLent
+pub use Rattle.bitvec_lent_split.specs.LentViews as SplitLentViews
 pub use Rattle.bitvec_split.specs.SplitLaws
 pub use Rattle.bitvec_split.specs.Splits
 pub use Rattle.bitvec_split.specs.Views as SplitViews

@@ -10,6 +10,10 @@ pub use bitvec_iter::{
     Chunks, ChunksExact, ChunksExactMut, ChunksMut, HalvesMut, IterCalls, IterMut, PieceCallsMut,
     PieceWalk, Pieces, PiecesMut, RChunks, RChunksExact, RChunksExactMut, RChunksMut, Windows,
 };
+pub use bitvec_lent_split::{
+    AtMost, Every, RSplitMut, RSplitNMut, SplitCallsMut, SplitInclusiveMut, SplitLimit, SplitMut,
+    SplitNMut, SplitsMut, SplitsNMut,
+};
 pub use bitvec_owned::ToBitVec;
 pub use bitvec_query::{
     BitQueries, IndexWalk, IterOnes, IterZeros, Ones, OnesCalls, Places, Wanted, Zeros,
@@ -19,8 +23,6 @@ pub use bitvec_slice::{
     View, ViewMut, Viewed, ViewedMut, from_mut, from_ref,
 };
 pub use bitvec_split::{
-    AtMost, Every, Forward, Inclusive, LimitedSplitWalk, RSplit, RSplitMut, RSplitN, RSplitNMut,
-    Reversed, Split, SplitCalls, SplitCalls as PieceCalls, SplitCallsMut, SplitInclusive,
-    SplitInclusiveMut, SplitKind, SplitLimit, SplitMut, SplitN, SplitNMut, SplitWalk, Splits,
-    SplitsMut, SplitsN, SplitsNMut,
+    Forward, Inclusive, LimitedSplitWalk, RSplit, RSplitN, Reversed, Split, SplitCalls,
+    SplitCalls as PieceCalls, SplitInclusive, SplitKind, SplitN, SplitWalk, Splits, SplitsN,
 };

@@ -16,7 +16,7 @@ use Rattle.bitvec_slice.specs.Showing.{ShowsElements}
 use Rattle.bitvec_closures.specs.InPlace.{StaysInPlace, WritesInPlace}
 use Rattle.bitvec_closures.specs.InPlaceLaws.{length-left, length-shown, piece-before, shown-fits, shown-within, stays-then}
 use Rattle.bitvec_domain.specs.Predicates.{Asked}
-use Rattle.bitvec_split.specs.Lent.{GivesAllIn, GivesRangeIn, LeftIn, LimitedNextIn, LimitedSplitIn, SplitNextIn, SplitRestIn}
+use Rattle.bitvec_lent_split.specs.Lent.{GivesAllIn, GivesRangeIn, LeftIn, LimitedNextIn, LimitedSplitIn, SplitNextIn, SplitRestIn}
 use Rattle.bitvec_split.specs.Splits.{SplitRule, row_of}
 use Rattle.bitvec_closures.specs.ToSplit.{IsLeftOf, TakesFrom, left_at, limited_at, most_left}
 use Rattle.bitvec_closures.specs.declared.left.ToSplit.{ToSplit}

@@ -10,7 +10,7 @@ use Rattle.std.proofs.lemmas.Bool.{cases_lt}
 use Rattle.bitvec_base.specs.WriteLaws.{get-slice_range}
 use Rattle.bitvec_slice.specs.Seen.{Seen}
 use Rattle.bitvec_domain.specs.Predicates.{Asked, Asks, upward}
-use Rattle.bitvec_split.specs.Lent.{GivesAllIn, GivesRangeIn, LeftIn, SplitNextIn, unsplit_in}
+use Rattle.bitvec_lent_split.specs.Lent.{GivesAllIn, GivesRangeIn, LeftIn, SplitNextIn, unsplit_in}
 use Rattle.bitvec_closures.specs.SplitEdits.{GivesInTurn}
 
 -- the index is in one of the ranges

@@ -2,7 +2,7 @@
 use Rattle.std.specs.Prelude.{◌≡◌, ℕ, ◌+◌, ◌-◌, ◌<◌, ◌≤◌, ◌⊎◌, true, false, MatchOption, Option, if◌then◌else◌}
 use Rattle.std.specs.declared.ops.Range.{Range}
 use Rattle.bitvec_slice.specs.Seen.{Seen}
-use Rattle.bitvec_split.specs.Lent.{LeftIn, LimitedSplitIn}
+use Rattle.bitvec_lent_split.specs.Lent.{LeftIn, LimitedSplitIn}
 use Rattle.bitvec_closures.specs.declared.left.ToSplit.{ToSplit}
 
 -- What is left of the view, as a lending split has it.

@@ -3,7 +3,7 @@ ghost use Rattle.std.specs.Prelude.{◌-◌, ◌<◌, IfSome, false, true};
 ghost use Rattle.bitvec_cutting.specs.Cutting.{cut};
 ghost use Rattle.bitvec_slice.specs.Indices.{HasRange};
 ghost use Rattle.bitvec_domain.specs.Predicates.{Asked, MayAsk};
-ghost use Rattle.bitvec_split.specs.Lent.{LimitedNextIn, MayGoOnIn, SplitNextIn, unsplit_in};
+ghost use Rattle.bitvec_lent_split.specs.Lent.{LimitedNextIn, MayGoOnIn, SplitNextIn, unsplit_in};
 ghost use Rattle.bitvec_split.specs.Splits.{asked_of, left_of_row, row_of};
 ghost use Rattle.bitvec_closures.specs.ToSplit.{IsLeftOf, TakesFrom, left_at, limited_at};
 ghost use Rattle.bitvec_closures.specs.SplitEdits.{EditsGiven, MayEditGiven};
@@ -20,7 +20,7 @@ use std::ops::Range;
 /// exact: the pieces are those that the split gives of the bits as they were, each has the bits that the
 /// closure left, and all else is as before.
 ///
-/// A predicate is asked as by the splits of `SplitCallsMut` (`bitvec_split`): about the bits that no piece
+/// A predicate is asked as by the splits of `SplitCallsMut` (`bitvec_lent_split`): about the bits that no piece
 /// has yet, by their indices among these and their values, until its first yes. A closure gets the number
 /// of a piece, from 0 on, and the piece, which may be empty. What the two keep goes from each call to the
 /// next. Conditions of all calls: the predicate may always be called, or at least asked about all bits of

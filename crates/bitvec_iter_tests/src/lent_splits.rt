@@ -5,8 +5,8 @@ ghost use Rattle.std.specs.Prelude.{◌*◌, ◌≤◌, length};
 ghost use Rattle.bitvec_base.specs.Window.{max_bits};
 
 use bitvec_base::{BitOrder, Lsb0, Msb0};
+use bitvec_lent_split::SplitCallsMut;
 use bitvec_slice::BitSliceMut;
-use bitvec_split::SplitCallsMut;
 use bitvec_store::BitStore;
 use bitvec_test_support::MEMORIES;
 

@@ -2,8 +2,8 @@
 
 use bitvec_base::Lsb0;
 use bitvec_iter::{IterCalls, PieceCallsMut};
+use bitvec_lent_split::SplitCallsMut;
 use bitvec_slice::{BitSlice, BitSliceMut};
-use bitvec_split::SplitCallsMut;
 use bitvec_test_support::shows;
 use std::alloc::Global;
 

@@ -1,4 +1,4 @@
-//! How a split goes, and whether it has a limit.
+//! How a split goes.
 ghost use Rattle.std.specs.Prelude.{◌≡◌, ◌+◌, ◌<◌, ◌^◌, Bool, false, true};
 ghost use Rattle.bitvec_split.specs.Splits.{asked_behind, end_of};
 
@@ -52,32 +52,6 @@ impl SplitKind for Reversed {
     ghost INCLUSIVE = { false };
 
     ghost REVERSED = { true };
-}
-
-/// Whether a split that lends its pieces lends all of them. `bitvec` has a type for each answer.
-pub trait SplitLimit {
-    /// Whether the pieces are counted, so that no more than a number of them come.
-    const LIMITED: bool;
-
-    ghost LIMITED: { Bool };
-}
-
-/// All pieces come, as of `split_mut`.
-pub struct Every;
-
-/// So many pieces come at most, as of `splitn_mut`.
-pub struct AtMost;
-
-impl SplitLimit for Every {
-    const LIMITED: bool = false;
-
-    ghost LIMITED = { false };
-}
-
-impl SplitLimit for AtMost {
-    const LIMITED: bool = true;
-
-    ghost LIMITED = { true };
 }
 
 /// The index behind a piece that the yes at an index ends. `bitvec` has no such call.

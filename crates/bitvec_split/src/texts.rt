@@ -11,8 +11,9 @@ use bitvec_slice::{BitSlice, write_named};
 use bitvec_store::BitStore;
 use std::fmt;
 
-/// Writes a name, and behind it in parentheses a view and how many pieces may come.
-pub(crate) fn write_limited<T: BitStore, O: BitOrder, V: fmt::Write>(
+/// Writes a name, and behind it in parentheses a view and how many pieces may come. `bitvec` has no such call.
+#[doc(hidden)]
+pub fn write_limited<T: BitStore, O: BitOrder, V: fmt::Write>(
     name: &str,
     left: BitSlice<'_, T, O>,
     count: usize,

@@ -1,4 +1,4 @@
-use Rattle.bitvec_split.specs.Lent.{LimitedNextIn, MayGoOnIn, unsplit_in}
+use Rattle.bitvec_lent_split.specs.Lent.{LimitedNextIn, MayGoOnIn, unsplit_in}
 use Rattle.bitvec_closures.specs.ToSplit.{left_at, limited_at, most_left}
 use Rattle.bitvec_closures.proofs.SplitCallsLaws.{CallsSoFar}
 use Rattle.bitvec_closures.proofs.edit_splits.EditSplits.for_each_limited_piece.Given as goal

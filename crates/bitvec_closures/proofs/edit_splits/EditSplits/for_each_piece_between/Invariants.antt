@@ -1,4 +1,4 @@
-use Rattle.bitvec_split.specs.Lent.{MayGoOnIn, SplitNextIn, unsplit_in}
+use Rattle.bitvec_lent_split.specs.Lent.{MayGoOnIn, SplitNextIn, unsplit_in}
 use Rattle.bitvec_closures.specs.ToSplit.{left_at, most_left}
 use Rattle.bitvec_closures.proofs.SplitCallsLaws.{CallsSoFar}
 use Rattle.bitvec_closures.proofs.edit_splits.EditSplits.for_each_piece_between.Given as goal

@@ -1,6 +1,6 @@
 use Rattle.std.proofs.Common.{Some, arith, inr, rules}
 use Rattle.bitvec_domain.specs.PredicatesLaws.{may_ask_of_fewer, may_ask_unfinished}
-use Rattle.bitvec_split.proofs.SplitStateLaws.{left-kept}
+use Rattle.bitvec_split.proofs.RowLaws.{left-kept}
 use Rattle.bitvec_split.proofs.splitting.Splits.next_from.Goals as goal
 
 pub ask_row-requires : goal.ask_row-requires
