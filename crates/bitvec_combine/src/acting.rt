@@ -24,6 +24,13 @@ pub trait Act<C: CellsRead>: Copy + Drop {
         0
     }
 
+    /// On how many whole elements it acts in a turn of a loop in which each other one is joined of two; 0 if the compiler is
+    /// to choose.
+    #[inline(always)]
+    fn turn() -> usize {
+        0
+    }
+
     /// Whether nothing is left to be done.
     fn stops(&self) -> bool
         ensures { result ≡ stopped self.now };

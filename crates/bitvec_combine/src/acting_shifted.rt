@@ -2,7 +2,7 @@
 ghost use Rattle.std.specs.Prelude.{◌≡◌, false};
 ghost use Rattle.bitvec_combine.specs.Acts.{ActsOnStretch, HasStretch, stretch_at};
 
-use crate::acting::Act;
+use crate::acting::{Act, spans_in};
 use crate::phases::Phases;
 use bitvec_base::Window;
 use bitvec_cells::CellsRead;
@@ -44,7 +44,7 @@ impl<O: WordOrder> Phases<O> for Shifted {
         act: &mut A,
     ) -> C::Elem {
         if C::Elem::BITS == u128::BITS {
-            return act_on_pairs::<O, C, D, A>(left, stretch, right, carry, act);
+            return act_in_turns::<O, C, D, A, Lanes>(left, stretch, right, carry, act, 2);
         }
         let (from, at, skip, count) = (stretch.first, stretch.source, stretch.skip, stretch.count);
         if C::Elem::BITS <= u16::BITS && count >= MANY_BITS / C::Elem::BITS as usize {
@@ -53,7 +53,7 @@ impl<O: WordOrder> Phases<O> for Shifted {
                 act_carried::<O, C, D, A, Whole<_>>(left, from, right, at, skip, count, carry, act)
             );
         }
-        act_carried::<O, C, D, A, Whole<_>>(left, from, right, at, skip, count, carry, act)
+        act_in_turns::<O, C, D, A, Whole<_>>(left, stretch, right, carry, act, A::turn())
     }
 
     /// Out of line, with the act in registers.
@@ -73,29 +73,39 @@ impl<O: WordOrder> Phases<O> for Shifted {
     }
 }
 
-/// Acts on elements of 128 bits, two a pass: the compiler unrolls a loop over such elements for no number of passes
-/// that it doesn't know.
+/// Acts on so many elements in each turn, which the compiler unrolls since it knows how many they are, and then on the
+/// rest. If `turn` is 0, all are the rest. The compiler unrolls a loop over elements of 128 bits for no number of passes that
+/// it doesn't know.
 #[inline(always)]
-fn act_on_pairs<O: WordOrder, C: CellsRead, D: CellsRead<Elem = C::Elem>, A: Act<C>>(
+fn act_in_turns<
+    O: WordOrder,
+    C: CellsRead,
+    D: CellsRead<Elem = C::Elem>,
+    A: Act<C>,
+    K: Carried<C::Elem>,
+>(
     left: &mut C,
     stretch: Stretch,
     right: &mut D,
     carry: C::Elem,
     act: &mut A,
+    turn: usize,
 ) -> C::Elem
-    requires wide { C.Elem.BITS ≡ 128 }
+    requires form { K.fits C.Elem.BITS }
     requires stretch { HasStretch C.Elem.BITS (C.numbers left.old) (D.numbers right.old) stretch false (C.Elem.value carry) }
     ensures { ActsOnStretch D.CellsRead A.Done C.Elem.BITS O.at left.old left.new right.old right.new stretch false act.old act.new (C.Elem.value result) }
 {
+    let turns = spans_in(stretch.count, turn);
     let mut last = carry;
-    for pair in 0..stretch.count / 2 {
-        let two = stretch.part(2 * pair, 2);
-        let (from, at, skip) = (two.first, two.source, two.skip);
-        last = act_carried::<O, C, D, A, Lanes>(left, from, right, at, skip, 2, last, act);
+    for step in 0..turns {
+        let here = stretch.part(step * turn, turn);
+        let (from, at, skip) = (here.first, here.source, here.skip);
+        last = act_carried::<O, C, D, A, K>(left, from, right, at, skip, turn, last, act);
     }
-    let rest = stretch.part(stretch.count - stretch.count % 2, stretch.count % 2);
+    let passed = turns * turn;
+    let rest = stretch.part(passed, stretch.count - passed);
     let (from, at, skip) = (rest.first, rest.source, rest.skip);
-    act_carried::<O, C, D, A, Lanes>(left, from, right, at, skip, rest.count, last, act)
+    act_carried::<O, C, D, A, K>(left, from, right, at, skip, rest.count, last, act)
 }
 
 /// Acts on whole elements, each given one that is joined of two, where each of the right ones is carried to the next pass

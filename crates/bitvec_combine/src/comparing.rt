@@ -39,6 +39,11 @@ impl<T: BitStore, C: CellsRead<Elem = T>, const TESTED: usize> Act<C> for Differ
     }
 
     #[inline(always)]
+    fn turn() -> usize {
+        0
+    }
+
+    #[inline(always)]
     fn stops(&self) -> bool {
         !is_zero::<T>(self.found)
     }

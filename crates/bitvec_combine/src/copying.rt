@@ -16,6 +16,10 @@ use bitvec_cells::{Cells, CellsRead};
 use bitvec_store::BitStore;
 use bitvec_words::{WordOrder, store_part};
 
+/// How many shifted elements are copied in a turn: so many that the compiler makes vectors of them before it unrolls the
+/// turn. By its own choice a turn has two vectors, and takes up to twice as long where its jump falls badly.
+const TURN: usize = 48;
+
 /// The act that puts the other bits in the place of the window's.
 #[derive(Clone, Copy)]
 struct Put {}
@@ -24,6 +28,11 @@ impl<C: Cells> Act<C> for Put {
     ghost Done = { λ at old new window list s t. PutsBits C.CellsRead C.Elem.BITS at old new window list };
 
     ghost stopped = { λ s. false };
+
+    #[inline(always)]
+    fn turn() -> usize {
+        TURN
+    }
 
     #[inline(always)]
     fn stops(&self) -> bool {
