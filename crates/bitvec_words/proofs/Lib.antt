@@ -11,4 +11,5 @@ pub mod ShiftedLaws
 mod ShortLemmas
 pub mod SliceWordLemmas
 pub mod SplitLemmas
+pub mod TurnLemmas
 pub mod WordScanLemmas

@@ -13,6 +13,9 @@ use bitvec_cells::{
 };
 use bitvec_store::BitStore;
 
+/// The elements of a turn of a loop. A jump back costs as much as the comparison of an element.
+const TURN: usize = 4;
+
 /// The index of a window's first bit that is `want`, if there is one. Condition: the memory has at most `MAX_BITS`
 /// bits, and the window lies in it. It loads each element that the window touches at most once, from the first on,
 /// and none behind the bit.
@@ -136,8 +139,33 @@ fn last_aligned<O: BitOrder, C: CellsRead>(
     last_whole::<O, C>(cells, first, count, want)
 }
 
-/// The last of `count` whole elements, each of which is passed by one comparison if it lacks the bit.
+/// The last of `count` whole elements: of turns from the back, and then of fewer elements.
 fn last_whole<O: BitOrder, C: CellsRead>(
+    cells: &mut C,
+    first: usize,
+    count: usize,
+    want: bool,
+) -> Option<usize>
+    requires { HasWindow C.Elem.BITS (C.numbers cells.old) (elements_window C.Elem.BITS first count) }
+    ensures value { result
+        ≡ last_place want (list_in C.Elem.BITS O.at (C.numbers cells.old) (elements_window C.Elem.BITS first count)) }
+    ensures reads { OnlyReadsAtMost C.CellsRead cells.old cells.new
+        (last_loads C.Elem.BITS (elements_window C.Elem.BITS first count) result) }
+{
+    let left = count % TURN;
+    for step in (0..count / TURN).rev() {
+        let passed = left + step * TURN;
+        if let Some(found) = last_of_turn::<O, C>(cells, first + passed, TURN, want) {
+            return Some(passed * C::Elem::BITS as usize + found);
+        }
+    }
+    last_of_turn::<O, C>(cells, first, left, want)
+}
+
+/// The last of `count` whole elements, each of which is passed by one comparison if it lacks the bit. The compiler
+/// unrolls the loop where they are a turn.
+#[inline(always)]
+fn last_of_turn<O: BitOrder, C: CellsRead>(
     cells: &mut C,
     first: usize,
     count: usize,

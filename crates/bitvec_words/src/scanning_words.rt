@@ -18,6 +18,9 @@ use bitvec_store::BitStore;
 /// The bits of a block, which is four words.
 const BLOCK_BITS: usize = 4 * WORD_BITS;
 
+/// The bits of a turn, which is four blocks.
+const TURN_BITS: usize = 4 * BLOCK_BITS;
+
 /// The index of a window's first bit that is `want`, if there is one. Condition: the memory has at most `MAX_BITS`
 /// bits, and the window lies in it. It loads each element that the window touches at most once, those of a block
 /// together.
@@ -61,7 +64,8 @@ fn first_from_edge<O: WordOrder, C: CellsRead>(
     (found < window.len).then_some(found)
 }
 
-/// The first of `count` elements: of blocks, and then of fewer elements.
+/// The first of `count` elements: of turns of four blocks, and then of fewer elements. A jump back costs as much as the
+/// comparison of a block.
 #[inline(always)]
 fn first_in_elements<O: WordOrder, C: CellsRead>(
     cells: &mut C,
@@ -74,16 +78,61 @@ fn first_in_elements<O: WordOrder, C: CellsRead>(
         ≡ first_place want (list_in C.Elem.BITS O.at (C.numbers cells.old) (elements_window C.Elem.BITS first count)) }
     ensures reads { OnlyReadsAtMost C.CellsRead cells.old cells.new count }
 {
+    let elements = TURN_BITS / C::Elem::BITS as usize;
+    let turns = count / elements;
+    for step in 0..turns {
+        if let Some(found) = first_in_blocks::<O, C>(cells, first + step * elements, 4, want) {
+            return Some(step * TURN_BITS + found);
+        }
+    }
+    let passed = turns * elements;
+    let found = first_in_fewer::<O, C>(cells, first + passed, count - passed, want)?;
+    Some(turns * TURN_BITS + found)
+}
+
+/// The first of `count` elements: of blocks, and then of fewer elements.
+#[inline(always)]
+fn first_in_fewer<O: WordOrder, C: CellsRead>(
+    cells: &mut C,
+    first: usize,
+    count: usize,
+    want: bool,
+) -> Option<usize>
+    requires { HasWindow C.Elem.BITS (C.numbers cells.old) (elements_window C.Elem.BITS first count) }
+    ensures value { result
+        ≡ first_place want (list_in C.Elem.BITS O.at (C.numbers cells.old) (elements_window C.Elem.BITS first count)) }
+    ensures reads { OnlyReadsAtMost C.CellsRead cells.old cells.new count }
+{
     let elements = BLOCK_BITS / C::Elem::BITS as usize;
     let blocks = count / elements;
-    for step in 0..blocks {
-        if let Some(found) = first_in_block::<O, C>(cells, first + step * elements, want) {
-            return Some(step * BLOCK_BITS + found);
-        }
+    if let Some(found) = first_in_blocks::<O, C>(cells, first, blocks, want) {
+        return Some(found);
     }
     let passed = blocks * elements;
     let found = first_in_rest::<O, C>(cells, first + passed, count - passed, want)?;
     Some(blocks * BLOCK_BITS + found)
+}
+
+/// The first of the elements of `count` blocks. The compiler unrolls the loop where they are those of a turn.
+#[inline(always)]
+fn first_in_blocks<O: WordOrder, C: CellsRead>(
+    cells: &mut C,
+    first: usize,
+    count: usize,
+    want: bool,
+) -> Option<usize>
+    requires { HasWindow C.Elem.BITS (C.numbers cells.old) (elements_window C.Elem.BITS first (count * (256 / C.Elem.BITS))) }
+    ensures value { result
+        ≡ first_place want (list_in C.Elem.BITS O.at (C.numbers cells.old) (elements_window C.Elem.BITS first (count * (256 / C.Elem.BITS)))) }
+    ensures reads { OnlyReadsAtMost C.CellsRead cells.old cells.new (count * (256 / C.Elem.BITS)) }
+{
+    let elements = BLOCK_BITS / C::Elem::BITS as usize;
+    for step in 0..count {
+        if let Some(found) = first_in_block::<O, C>(cells, first + step * elements, want) {
+            return Some(step * BLOCK_BITS + found);
+        }
+    }
+    None
 }
 
 /// The first of `count` elements: of words, where they are narrower, and then of single ones.

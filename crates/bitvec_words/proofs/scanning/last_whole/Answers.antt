@@ -1,83 +1,96 @@
-use Rattle.std.proofs.Common.{◌≡◌, ◌<◌, ℕ, ◌+◌, ◌-◌, ◌*◌, arith, rules, refl, sym, ◌∙◌, ap, Bool, List, Some}
+use Rattle.std.proofs.Common.{◌≡◌, ◌≤◌, ℕ, ◌+◌, ◌-◌, ◌*◌, ◌/◌, ◌%◌, arith, rules, refl, sym, ◌∙◌, ap, Bool, List}
 use Rattle.bitvec_store.specs.WidthLaws.{width_some}
 use Rattle.bitvec_base.specs.Lists.{last_place}
 use Rattle.bitvec_base.specs.PlacesLaws.{last_place-nil}
-use Rattle.bitvec_words.specs.Elements.{elements_window}
 use Rattle.bitvec_words.specs.TouchedLaws.{touched-whole}
 use Rattle.bitvec_words.specs.WholeLaws.{list-empty}
-use Rattle.bitvec_words.proofs.CostLemmas.{reads-exact, reads-most}
-use Rattle.bitvec_words.proofs.ScanLemmas.{last-below, last-inside, last-must, last-passed, last_loads-some, range-element}
-use Rattle.bitvec_words.proofs.SplitLemmas.{elements-split, last-element_has, last-element_lacks, last-loads_front}
-use Rattle.bitvec_words.proofs.PlaceLemmas.{element-inside}
+use Rattle.bitvec_words.proofs.CostLemmas.{reads-both}
+use Rattle.bitvec_words.proofs.ScanLemmas.{last-inside}
+use Rattle.bitvec_words.proofs.SplitLemmas.{HasWindow-front, elements-split, last-loads_front, split-last_front}
+use Rattle.bitvec_words.proofs.TurnLemmas.{HasWindow-turn, last-turn, last-turn_has, last-turn_loads}
 use Rattle.bitvec_words.proofs.scanning.last_whole.Goals as goal
 
 pub loop-step-init : goal.loop-step-init
 loop-step-init g c =
-    let none : c.args.count - c.args.count ≡ 0 = omega arith in
-    let empty : (c.args.count - c.args.count) * g.C.Elem.BitStore.BITS ≡ 0 = rw none (omega arith) in
+    let none : c.args.count - (c.args.count % 4 + c.args.count / 4 * 4) ≡ 0 = omega arith in
+    let empty : (c.args.count - (c.args.count % 4 + c.args.count / 4 * 4)) * g.C.Elem.BitStore.BITS ≡ 0 = rw none (omega arith) in
     record {
       none = sym (ap (λ (l : List Bool). last_place c.args.want l) (list-empty _ _ _ _ empty) ∙ last_place-nil c.args.want);
       reads = search rules;
     }
 
-pub load-element-requires : goal.load-element-requires
-load-element-requires g c =
-    rw c.loop-step.invariant.reads.numbers (element-inside _ _ c.args.first c.args.count (c.loop-step.step - 1) (width_some _ g.met.C.Elem.BitStore.width_law) c.requires (omega arith))
-
-pub last_in_element-requires : goal.last_in_element-requires
-last_in_element-requires g c = record { order = omega arith; bound = omega arith }
-
-pub returns-in_err-found : goal.returns-in_err-found
-returns-in_err-found g c =
-    let b = g.C.Elem.BitStore.BITS in
-    let at = g.O.BitOrder.at in
-    let none = c.in_err-found.ensures ∙ ap (λ (l : List Bool). last_place c.args.want l) (range-element b at _ _ c.BITS-bits.ensures) in
-    absurd (last-must b at (g.met.O.BitOrder.permutes _ g.met.C.Elem.BitStore.width_law) _ _ _ c.args.want (c.to_u128.ensures.number ∙ c.xor.ensures) c.if-to_u128-ne0.true c.load-element.ensures.in_range c.filled-lacking.ensures none)
-
-pub overflow_add-result : goal.overflow_add-result
-overflow_add-result g c =
-    let b = g.C.Elem.BitStore.BITS in
-    let at = g.O.BitOrder.at in
-    let inv = c.loop-step.invariant in
-    let here = c.in_ok-found.ensures ∙ ap (λ (l : List Bool). last_place c.args.want l) (range-element b at _ _ c.BITS-bits.ensures) in
-    let found = last-element_has b at _ _ _ (c.loop-step.step - 1) _ c.args.want (width_some _ g.met.C.Elem.BitStore.width_law) c.requires (omega arith) (rw inv.reads.numbers at c.load-element.ensures.value) _ (omega arith) inv.none _ here in
-    let below = last-inside b at _ _ c.args.want _ c.requires found _ refl in
-    rw c.BITS-bits.ensures (omega arith)
-
-pub returns-then-to_u128-ne0 : goal.returns-then-to_u128-ne0
-returns-then-to_u128-ne0 g c =
-    let b = g.C.Elem.BitStore.BITS in
-    let at = g.O.BitOrder.at in
-    let inv = c.loop-step.invariant in
-    let load = c.load-element.ensures in
+pub last_of_turn-requires : goal.last_of_turn-requires
+last_of_turn-requires g c =
     let some = width_some _ g.met.C.Elem.BitStore.width_law in
-    let here = c.in_ok-found.ensures ∙ ap (λ (l : List Bool). last_place c.args.want l) (range-element b at _ _ c.BITS-bits.ensures) in
-    let below = last-below b at _ _ c.args.want here in
-    let upto : ℕ = c.loop-step.step - 1 + 1 in
-    let inside : (i : ℕ) → Some ((c.loop-step.step - 1) * b + c.in_ok-found.found) ≡ Some i → i < upto * b = λ i is. (let same : (c.loop-step.step - 1) * b + c.in_ok-found.found ≡ i = cc in omega arith) in
-    let most = last-loads_front (elements-split b c.args.first c.args.count upto some (omega arith)) some _ inside in
-    let one = last_loads-some b (elements_window b c.args.first upto) _ (omega arith) inside in
-    let left = touched-whole b (c.args.first + upto) (c.args.count - upto) some in
-    rw c.BITS-bits.ensures
+    rw c.loop-step.invariant.reads.numbers
+    (HasWindow-turn g.C.Elem.BitStore.BITS g.O.BitOrder.at _ c.args.first c.args.count (c.args.count % 4 + (c.loop-step.step - 1) * 4) 4 (c.args.count % 4 + c.loop-step.step * 4) c.args.want some c.requires (omega arith) (omega arith))
+
+pub returns-in-Some : goal.returns-in-Some
+returns-in-Some g c =
+    let b = g.C.Elem.BitStore.BITS in
+    let at = g.O.BitOrder.at in
+    let some = width_some _ g.met.C.Elem.BitStore.width_law in
+    let inv = c.loop-step.invariant in
+    let here = rw inv.reads.numbers at c.in-Some.ensures.value in
+    let passed : ℕ = c.args.count % 4 + (c.loop-step.step - 1) * 4 in
+    let next : ℕ = c.args.count % 4 + c.loop-step.step * 4 in
+    let sum : passed + 4 ≡ next = omega arith in
+    let within : next ≤ c.args.count = omega arith in
+    let loads = last-turn_loads b at _ c.args.first c.args.count passed 4 next c.args.want some c.requires sum within _ here in
+    rw c.BITS.ensures
     (record {
-      value = last-element_has b at _ _ _ _ _ c.args.want some c.requires (omega arith) (rw inv.reads.numbers at c.load-element.ensures.value) _ (omega arith) inv.none _ here;
-      reads = record { numbers = load.numbers ∙ inv.reads.numbers; borrow = load.borrow ∙ inv.reads.borrow; loads = omega arith; stores = load.stores ∙ inv.reads.stores };
+      value = last-turn_has b at _ c.args.first c.args.count passed 4 next c.args.want some c.requires sum within inv.none _ here;
+      reads = reads-both inv.reads c.in-Some.ensures.reads (omega arith);
     })
 
 pub loop-step-preserved : goal.loop-step-preserved
 loop-step-preserved g c =
     let b = g.C.Elem.BitStore.BITS in
     let at = g.O.BitOrder.at in
+    let some = width_some _ g.met.C.Elem.BitStore.width_law in
     let inv = c.loop-step.invariant in
-    let load = c.load-element.ensures in
-    let width = g.met.C.Elem.BitStore.width_law in
+    let here = rw inv.reads.numbers at c.in_default.ensures.value in
+    let passed : ℕ = c.args.count % 4 + (c.loop-step.step - 1) * 4 in
+    let next : ℕ = c.args.count % 4 + c.loop-step.step * 4 in
+    let sum : passed + 4 ≡ next = omega arith in
+    let within : next ≤ c.args.count = omega arith in
+    let turn = touched-whole b (c.args.first + passed) 4 some in
     record {
-      none = last-element_lacks b at _ _ _ _ _ c.args.want (width_some _ width) c.requires (omega arith) (rw inv.reads.numbers at c.load-element.ensures.value) _ (omega arith) inv.none
-          (last-passed b at (g.met.O.BitOrder.permutes _ width) _ _ _ c.args.want c.xor.ensures (sym c.to_u128.ensures.number ∙ c.if-to_u128-ne0.false) c.filled-lacking.ensures);
-      reads = record { numbers = load.numbers ∙ inv.reads.numbers; borrow = load.borrow ∙ inv.reads.borrow; loads = omega arith; stores = load.stores ∙ inv.reads.stores };
+      none = last-turn b at _ c.args.first c.args.count passed 4 next c.args.want some c.requires sum within inv.none _ here;
+      reads = reads-both inv.reads c.in_default.ensures.reads (omega arith);
     }
 
-pub returns-clause-reads : goal.returns-clause-reads
-returns-clause-reads g c =
-    let all = touched-whole g.C.Elem.BitStore.BITS c.args.first c.args.count (width_some _ g.met.C.Elem.BitStore.width_law) in
-    reads-most (reads-exact c.loop-step.invariant.reads) (omega arith)
+pub last_of_turn-requires-2 : goal.last_of_turn-requires-2
+last_of_turn-requires-2 g c =
+    let some = width_some _ g.met.C.Elem.BitStore.width_law in
+    rw c.loop-step.invariant.reads.numbers (HasWindow-front (elements-split g.C.Elem.BitStore.BITS c.args.first c.args.count (c.args.count % 4) some (omega arith)) c.requires)
+
+pub returns : goal.returns
+returns g c =
+    let b = g.C.Elem.BitStore.BITS in
+    let at = g.O.BitOrder.at in
+    let some = width_some _ g.met.C.Elem.BitStore.width_law in
+    let inv = c.loop-step.invariant in
+    let left : ℕ = c.args.count % 4 in
+    let same : left + c.loop-step.step * 4 ≡ left = omega arith in
+    let none = rw same at inv.none in
+    let split = elements-split b c.args.first c.args.count left some (omega arith) in
+    let here = rw inv.reads.numbers at c.last_of_turn-2.ensures.value in
+    let behind = touched-whole b (c.args.first + left) (c.args.count - left) some in
+    let loads = last-loads_front split some _ (last-inside b at _ _ c.args.want _ (HasWindow-front split c.requires) here) in
+    record {
+      value = split-last_front split at c.requires c.args.want _ none here;
+      reads = reads-both inv.reads c.last_of_turn-2.ensures.reads (omega arith);
+    }
+
+pub overflow_add-result : goal.overflow_add-result
+overflow_add-result g c =
+    let b = g.C.Elem.BitStore.BITS in
+    let at = g.O.BitOrder.at in
+    let some = width_some _ g.met.C.Elem.BitStore.width_law in
+    let inv = c.loop-step.invariant in
+    let here = rw inv.reads.numbers at c.in-Some.ensures.value in
+    let passed : ℕ = c.args.count % 4 + (c.loop-step.step - 1) * 4 in
+    let found = last-turn_has b at _ c.args.first c.args.count passed 4 (c.args.count % 4 + c.loop-step.step * 4) c.args.want some c.requires (omega arith) (omega arith) inv.none _ here in
+    let below = last-inside b at _ _ c.args.want _ c.requires found _ refl in
+    rw c.BITS.ensures (omega arith)

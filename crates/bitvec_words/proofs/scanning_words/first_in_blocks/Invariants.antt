@@ -1,0 +1,14 @@
+use Rattle.std.proofs.Common.{◌≡◌, ◌*◌, ◌/◌, None}
+use Rattle.bitvec_base.specs.Lists.{first_place}
+use Rattle.bitvec_base.specs.Memory.{list_in}
+use Rattle.bitvec_cells.specs.Access.{OnlyReads}
+use Rattle.bitvec_words.specs.Elements.{elements_window}
+use Rattle.bitvec_words.proofs.scanning_words.first_in_blocks.Given as goal
+
+abbrev pub invariant-loop-step : goal.invariant-loop-step
+invariant-loop-step g l =
+    let b = g.C.Elem.BitStore.BITS in
+    record {
+      none : None ≡ first_place l.want (list_in b g.O.BitOrder.at (g.C.CellsRead.numbers l.fn.cells) (elements_window b l.first (l.step * (256 / b))));
+      reads : OnlyReads g.C.CellsRead l.fn.cells l.cells (l.step * (256 / b));
+    }
