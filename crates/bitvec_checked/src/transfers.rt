@@ -1,5 +1,5 @@
 //! Bits of a window copied from a window of another memory, combined with its bits, or exchanged for them.
-ghost use Rattle.bitvec_run.specs.declared.command.Op.TheVariants.{And, CopyFrom, Or, Xor};
+ghost use Rattle.bitvec_commands.specs.declared.command.Op.TheVariants.{And, CopyFrom, Or, Xor};
 ghost use Rattle.bitvec_checked.specs.Calls.{EditsBeside, Joins, Swaps};
 ghost use Rattle.bitvec_checked.specs.Pairs.{only_first};
 ghost use Rattle.bitvec_checked.specs.Statuses.{bits_from};
