@@ -48,7 +48,7 @@ NOTIONS = [
            "bitvec_in_place bitvec/{Arrays,ChangesLaws,FoundLaws}", "ARRAYS.md"),
     Notion("cursors", "Cursors", "Numbers and bits read and written one after the other.", "bitvec_in_place/{reader,writer,cursor_error,Cursors,Rooms,Rows} bitvec/{ListNumbersLaws,RowsLaws}", "NUMBERS.md"),
     Notion("sequences", "Sequences", "Owned bits: sequences that grow, and arrays of bits.", "bitvec_owned bitvec_copying", "SEQUENCES.md"),
-    Notion("runs", "Runs", "Lists of commands, run through a window of a memory or through two halves of a view.", "bitvec_run bitvec_run_halves", "RUNS.md"),
+    Notion("runs", "Runs", "Lists of commands, run through a window of a memory or through two halves of a view.", "bitvec_commands bitvec_run bitvec_run_halves", "RUNS.md"),
     Notion("records", "Records", "Records packed into bits.", "bitrecord"),
     Notion("access", "Counted access and costs", "Access to the elements of a memory that counts loads and stores, and what an operation may take.",
            "bitvec_cells bitvec_engine/{WordSteps,WordStepsLaws}"),

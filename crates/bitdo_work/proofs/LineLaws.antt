@@ -9,7 +9,7 @@ use Rattle.std.proofs.lemmas.List.{take_more, take_all, get_or_read, nil_from_le
 use Rattle.std.proofs.lemmas.List.Elements.{filter_map-append}
 use Rattle.std.proofs.lemmas.List.Folds.{list_any_none}
 use Rattle.std.proofs.lemmas.List.Sums.{position_or_len_is}
-use Rattle.bitvec_run.specs.declared.command.Step.{Step}
+use Rattle.bitvec_run.specs.declared.step.Step.{Step}
 use Rattle.bitdo_work.specs.Steps.{step_of, step_of_words, is_bad_line, steps_of, bad_line_of}
 
 -- the first n lines were read as these steps

@@ -2,9 +2,9 @@
 use Rattle.std.proofs.Common.{◌≡◌, ℕ, Bool, false, true, ◌&&◌, List, length, Option, Some, None, is_some, IsSome, refl, ap, ◌∙◌}
 use Rattle.std.proofs.Math.Bool.{and-false}
 use Rattle.bitvec_base.specs.declared.window.Window.{Window}
-use Rattle.bitvec_run.specs.declared.command.Reply.{Reply}
-use Rattle.bitvec_run.specs.declared.command.RunError.{RunError}
-use Rattle.bitvec_run.specs.declared.command.Step.{Step}
+use Rattle.bitvec_commands.specs.declared.command.Reply.{Reply}
+use Rattle.bitvec_run.specs.declared.run_error.RunError.{RunError}
+use Rattle.bitvec_run.specs.declared.step.Step.{Step}
 use Rattle.bitvec_run.specs.Runs.{FailsRun}
 use Rattle.bitdo_work.specs.Arguments.{Request, request, request_by_texts}
 use Rattle.bitdo_work.specs.Elements.{elements_of}

@@ -2,9 +2,9 @@
 use Rattle.std.proofs.Common.{◌≡◌, ℕ, Bool, List, Result, Ok, Err, IfOk, OnOk, Vec, vec_items}
 use Rattle.bitvec_base.specs.Memory.{memory_bits}
 use Rattle.bitvec_cells.specs.declared.cells.CellsRead.{Ghosts as Access}
-use Rattle.bitvec_run.specs.declared.command.Reply.{Reply}
-use Rattle.bitvec_run.specs.declared.command.RunError.{RunError}
-use Rattle.bitvec_run.specs.declared.command.Step.{Step}
+use Rattle.bitvec_commands.specs.declared.command.Reply.{Reply}
+use Rattle.bitvec_run.specs.declared.run_error.RunError.{RunError}
+use Rattle.bitvec_run.specs.declared.step.Step.{Step}
 use Rattle.bitvec_run.specs.Runs.{CanRun, RunsBy, step_outcome}
 use Rattle.bitdo_work.specs.Arguments.{Request}
 use Rattle.bitdo_work.specs.Program.{IsRun}

@@ -1,8 +1,8 @@
 -- The faults that keep a run from being made: the status and the text of each.
 use Rattle.std.specs.Prelude.{ℕ, List, ◌++◌, codes}
 use Rattle.std.specs.Fmt.{decimal}
-use Rattle.bitvec_run.specs.declared.command.RunError.{RunError}
-use Rattle.bitvec_run.specs.declared.command.RunError.TheVariants as error
+use Rattle.bitvec_run.specs.declared.run_error.RunError.{RunError}
+use Rattle.bitvec_run.specs.declared.run_error.RunError.TheVariants as error
 use Rattle.bitdo_work.specs.declared.fault.Fault.{Fault}
 use Rattle.bitdo_work.specs.declared.fault.Fault.TheVariants.{Arguments, Input, Line, Run, Memory}
 

@@ -3,8 +3,8 @@ use Rattle.std.specs.Prelude.{ℕ, if◌then◌else◌, List, Option, Some, None
 use Rattle.std.specs.Option.{option_map}
 use Rattle.std.specs.Str.{bytes_eq}
 use Rattle.bitvec_base.specs.declared.window.Window.{Window}
-use Rattle.bitvec_run.specs.declared.command.Op.{Op}
-use Rattle.bitvec_run.specs.declared.command.Op.TheVariants as op
+use Rattle.bitvec_commands.specs.declared.command.Op.{Op}
+use Rattle.bitvec_commands.specs.declared.command.Op.TheVariants as op
 use Rattle.bitdo_work.specs.Words.{◌>>=◌, no_argument, one_number, one_bit, number_and_bit, two_numbers, three_numbers, one_window}
 
 -- one by its word alone

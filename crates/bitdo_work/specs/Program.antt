@@ -3,9 +3,9 @@ use Rattle.std.specs.Prelude.{◌≡◌, ℕ, ◌^◌, ◌<◌, ◌≤◌, Bool,
 use Rattle.std.specs.Io.KnownBytes.{Appends, Consumes, IsAtEnd}
 use Rattle.std.specs.Str.{IsUtf8}
 use Rattle.bitvec_base.specs.Memory.{Writes, list_in, memory_bits}
-use Rattle.bitvec_run.specs.declared.command.Reply.{Reply}
-use Rattle.bitvec_run.specs.declared.command.RunError.{RunError}
-use Rattle.bitvec_run.specs.declared.command.Step.{Step}
+use Rattle.bitvec_commands.specs.declared.command.Reply.{Reply}
+use Rattle.bitvec_run.specs.declared.run_error.RunError.{RunError}
+use Rattle.bitvec_run.specs.declared.step.Step.{Step}
 use Rattle.bitvec_run.specs.Fold.{list_after, replies_of}
 use Rattle.bitvec_run.specs.Runs.{CanRun, FailsRun, step_list, step_reply}
 use Rattle.bitdo_work.specs.Arguments.{Request}

@@ -4,10 +4,10 @@ use Rattle.std.specs.declared.cmp.Ordering.{Ordering}
 use Rattle.std.specs.declared.cmp.Ordering.TheVariants.{Less, Equal, Greater}
 use Rattle.std.specs.Fmt.{decimal}
 use Rattle.std.specs.List.{flat_map}
-use Rattle.bitvec_run.specs.declared.command.Refusal.{Refusal}
-use Rattle.bitvec_run.specs.declared.command.Refusal.TheVariants.{Range, Index, Amount, Source, Dest, Right, Length, Width}
-use Rattle.bitvec_run.specs.declared.command.Reply.{Reply}
-use Rattle.bitvec_run.specs.declared.command.Reply.TheVariants as reply
+use Rattle.bitvec_commands.specs.declared.command.Refusal.{Refusal}
+use Rattle.bitvec_commands.specs.declared.command.Refusal.TheVariants.{Range, Index, Amount, Source, Dest, Right, Length, Width}
+use Rattle.bitvec_commands.specs.declared.command.Reply.{Reply}
+use Rattle.bitvec_commands.specs.declared.command.Reply.TheVariants as reply
 
 -- the text on a line of its own
 abbrev pub line_of : List ℕ → List ℕ

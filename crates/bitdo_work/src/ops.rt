@@ -5,7 +5,7 @@ ghost use Rattle.bitdo_work.specs.Words.{words_left};
 
 use crate::words::Words;
 use bitvec_base::Window;
-use bitvec_run::Op;
+use bitvec_commands::Op;
 
 /// The command of a word and the arguments after it: a row a command, as many arguments as it
 /// shows. A word without a row is no command.

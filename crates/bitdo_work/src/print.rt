@@ -6,7 +6,7 @@ ghost use Rattle.bitdo_work.specs.Faults.{fault_text};
 ghost use Rattle.bitdo_work.specs.Texts.{line_of, refusal_text, bit_text, order_text, reply_text, run_text, digit_code, hexadecimal_text, element_text, memory_text, next_text};
 
 use crate::fault::Fault;
-use bitvec_run::{Refusal, Reply};
+use bitvec_commands::{Refusal, Reply};
 use bitvec_store::BitStore;
 use std::cmp::Ordering;
 use std::io::{self, Write};

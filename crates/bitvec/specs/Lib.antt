@@ -92,7 +92,7 @@ pub use Rattle.bitvec_closures.specs.WritesLaws
 pub use Rattle.bitvec_domain.specs.References
 pub use Rattle.bitvec_cells.specs.Access
 pub use Rattle.bitvec_run.specs.Fold
-pub use Rattle.bitvec_run.specs.Groups
+pub use Rattle.bitvec_commands.specs.Groups
 pub use Rattle.bitvec_run.specs.Runs
 pub use Rattle.bitvec_run.specs.WordRunsLaws
 pub use Rattle.bitvec_engine.specs.WordSteps

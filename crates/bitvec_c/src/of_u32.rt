@@ -1,7 +1,7 @@
 //! The exports over elements of 32 bits.
 ghost use Rattle.std.specs.Prelude.{◌&&◌};
 ghost use Rattle.bitvec_base.specs.Lists.{differs};
-ghost use Rattle.bitvec_run.specs.declared.command.Op.TheVariants.{All, And, Any, Cmp, Contains, CopyFrom, CopyWithin, CountOnes, CountZeros, EndsWith, Eq, Fill, FirstOne, FirstZero, Get, Invert, LastOne, LastZero, Or, Replace, Reverse, RotateLeft, RotateRight, Set, ShiftEnd, ShiftStart, StartsWith, Swap, Xor};
+ghost use Rattle.bitvec_commands.specs.declared.command.Op.TheVariants.{All, And, Any, Cmp, Contains, CopyFrom, CopyWithin, CountOnes, CountZeros, EndsWith, Eq, Fill, FirstOne, FirstZero, Get, Invert, LastOne, LastZero, Or, Replace, Reverse, RotateLeft, RotateRight, Set, ShiftEnd, ShiftStart, StartsWith, Swap, Xor};
 ghost use Rattle.bitvec_segments.specs.Segments.{loaded_be, loaded_le, stored_be, stored_le};
 ghost use Rattle.bitvec_checked.specs.Calls.{Asks, AsksBeside, CopiesEvery, CountsEvery, EditsBeside, EditsBy, FillsEvery, Joins, Loads, Seeks, Stores, Swaps, Tells};
 ghost use Rattle.bitvec_checked.specs.Pairs.{no_pair_where, only_first, pairs_where};

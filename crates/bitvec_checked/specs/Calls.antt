@@ -5,10 +5,10 @@ use Rattle.std.specs.Prelude.{◌≡◌, ◌≢◌, ℕ, ◌-◌, Bool, true, fa
 use Rattle.bitvec_base.specs.declared.window.Window.{Window}
 use Rattle.bitvec_base.specs.Lists.{combined}
 use Rattle.bitvec_base.specs.Memory.{Writes, list_in, memory_bits}
-use Rattle.bitvec_run.specs.declared.command.Op.{Op}
-use Rattle.bitvec_run.specs.declared.command.Op.TheVariants.{And, CopyFrom}
-use Rattle.bitvec_run.specs.declared.command.Reply.{Reply}
-use Rattle.bitvec_run.specs.Commands.{op_row}
+use Rattle.bitvec_commands.specs.declared.command.Op.{Op}
+use Rattle.bitvec_commands.specs.declared.command.Op.TheVariants.{And, CopyFrom}
+use Rattle.bitvec_commands.specs.declared.command.Reply.{Reply}
+use Rattle.bitvec_commands.specs.Commands.{op_row}
 use Rattle.bitvec_checked.specs.Every.{every, with_every}
 use Rattle.bitvec_checked.specs.Replies.{index_of}
 use Rattle.bitvec_checked.specs.Statuses.{or_next, status_beside, status_of, step_status, steps_status, width_status, window_status}

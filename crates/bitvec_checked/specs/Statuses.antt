@@ -5,11 +5,11 @@ use Rattle.std.specs.Prelude.{ℕ, zero, suc, ◌*◌, ◌==◌, false, ◌&&◌
 use Rattle.std.specs.Int.{div_ceil}
 use Rattle.bitvec_base.specs.declared.window.Window.{Window}
 use Rattle.bitvec_base.specs.Window.{max_bits}
-use Rattle.bitvec_run.specs.declared.command.Op.{Op}
-use Rattle.bitvec_run.specs.declared.command.Refusal.{Refusal}
-use Rattle.bitvec_run.specs.declared.command.Refusal.TheVariants.{Range, Index, Amount, Source, Dest, Right, Length, Width}
-use Rattle.bitvec_run.specs.Commands.{op_refusal}
-use Rattle.bitvec_run.specs.Rows.{lies_in, unless}
+use Rattle.bitvec_commands.specs.declared.command.Op.{Op}
+use Rattle.bitvec_commands.specs.declared.command.Refusal.{Refusal}
+use Rattle.bitvec_commands.specs.declared.command.Refusal.TheVariants.{Range, Index, Amount, Source, Dest, Right, Length, Width}
+use Rattle.bitvec_commands.specs.Commands.{op_refusal}
+use Rattle.bitvec_commands.specs.Rows.{lies_in, unless}
 
 -- so many bits from this one on
 abbrev pub bits_from : ℕ → ℕ → Window

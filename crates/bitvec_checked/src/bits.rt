@@ -1,5 +1,5 @@
 //! Single bits of a window.
-ghost use Rattle.bitvec_run.specs.declared.command.Op.TheVariants.{Get, Replace, Set, Swap};
+ghost use Rattle.bitvec_commands.specs.declared.command.Op.TheVariants.{Get, Replace, Set, Swap};
 ghost use Rattle.bitvec_checked.specs.Calls.{Asks, EditsBy};
 ghost use Rattle.bitvec_checked.specs.Replies.{bit_of};
 ghost use Rattle.bitvec_checked.specs.Statuses.{bits_from};

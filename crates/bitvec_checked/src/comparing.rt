@@ -1,6 +1,6 @@
 //! The bits of two windows compared.
 ghost use Rattle.std.specs.Prelude.{◌≡◌};
-ghost use Rattle.bitvec_run.specs.declared.command.Op.TheVariants.{Cmp, Eq};
+ghost use Rattle.bitvec_commands.specs.declared.command.Op.TheVariants.{Cmp, Eq};
 ghost use Rattle.bitvec_checked.specs.Calls.{AsksBeside};
 ghost use Rattle.bitvec_checked.specs.Replies.{bit_of, order_number, order_of};
 ghost use Rattle.bitvec_checked.specs.Statuses.{bits_from};

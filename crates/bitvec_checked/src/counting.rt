@@ -1,7 +1,7 @@
 //! How many bits of a window are 1, or 0, and whether any or all are 1.
 ghost use Rattle.std.specs.Prelude.{◌≡◌, count_by, map, not};
 ghost use Rattle.bitvec_base.specs.Memory.{HasWindow, list_in};
-ghost use Rattle.bitvec_run.specs.declared.command.Op.TheVariants.{All, Any, CountOnes, CountZeros};
+ghost use Rattle.bitvec_commands.specs.declared.command.Op.TheVariants.{All, Any, CountOnes, CountZeros};
 ghost use Rattle.bitvec_checked.specs.Calls.{Asks};
 ghost use Rattle.bitvec_checked.specs.Replies.{bit_of, count_of};
 ghost use Rattle.bitvec_checked.specs.Statuses.{bits_from};

@@ -1,5 +1,5 @@
 //! Each bit of a window set, cleared or flipped.
-ghost use Rattle.bitvec_run.specs.declared.command.Op.TheVariants.{Fill, Invert};
+ghost use Rattle.bitvec_commands.specs.declared.command.Op.TheVariants.{Fill, Invert};
 ghost use Rattle.bitvec_checked.specs.Calls.{EditsBy};
 ghost use Rattle.bitvec_checked.specs.Statuses.{bits_from};
 

@@ -1,5 +1,5 @@
 //! The bits of a window moved to other places of it.
-ghost use Rattle.bitvec_run.specs.declared.command.Op.TheVariants.{CopyWithin, Reverse, RotateLeft, RotateRight, ShiftEnd, ShiftStart};
+ghost use Rattle.bitvec_commands.specs.declared.command.Op.TheVariants.{CopyWithin, Reverse, RotateLeft, RotateRight, ShiftEnd, ShiftStart};
 ghost use Rattle.bitvec_checked.specs.Calls.{EditsBy};
 ghost use Rattle.bitvec_checked.specs.Statuses.{bits_from};
 

@@ -2,7 +2,7 @@
 ghost use Rattle.std.specs.Prelude.{◌≡◌, map};
 ghost use Rattle.bitvec_base.specs.Lists.{is_prefix, is_suffix, stands_in};
 ghost use Rattle.bitvec_base.specs.Memory.{HasWindow, list_in};
-ghost use Rattle.bitvec_run.specs.declared.command.Op.TheVariants.{Contains, EndsWith, StartsWith};
+ghost use Rattle.bitvec_commands.specs.declared.command.Op.TheVariants.{Contains, EndsWith, StartsWith};
 ghost use Rattle.bitvec_checked.specs.Calls.{AsksBeside};
 ghost use Rattle.bitvec_checked.specs.Replies.{bit_of};
 ghost use Rattle.bitvec_checked.specs.Statuses.{bits_from};

@@ -1,5 +1,5 @@
 //! The first and the last bit of a window that is 1, or 0.
-ghost use Rattle.bitvec_run.specs.declared.command.Op.TheVariants.{FirstOne, FirstZero, LastOne, LastZero};
+ghost use Rattle.bitvec_commands.specs.declared.command.Op.TheVariants.{FirstOne, FirstZero, LastOne, LastZero};
 ghost use Rattle.bitvec_checked.specs.Calls.{Seeks};
 ghost use Rattle.bitvec_checked.specs.Statuses.{bits_from};
 

@@ -3,14 +3,14 @@ ghost use Rattle.std.specs.Prelude.{◌≡◌, ◌*◌, ◌<◌, ◌≤◌, [], 
 ghost use Rattle.std.specs.Int.{div_ceil};
 ghost use Rattle.bitvec_base.specs.Lists.{FitsWithin};
 ghost use Rattle.bitvec_base.specs.Memory.{FitsMaxBits, HasWindow};
-ghost use Rattle.bitvec_run.specs.Commands.{amount_refusal, index_refusal, op_refusal, right_refusal};
-ghost use Rattle.bitvec_run.specs.Rows.{unless};
-ghost use Rattle.bitvec_run.specs.declared.command.Op.TheVariants.{CopyFrom, CopyWithin, Swap};
+ghost use Rattle.bitvec_commands.specs.Commands.{amount_refusal, index_refusal, op_refusal, right_refusal};
+ghost use Rattle.bitvec_commands.specs.Rows.{unless};
+ghost use Rattle.bitvec_commands.specs.declared.command.Op.TheVariants.{CopyFrom, CopyWithin, Swap};
 ghost use Rattle.bitvec_checked.specs.Statuses.{end_status, memories_status, or_next, refusal_status, status_beside, step_status, steps_status, width_status, window_status};
 
 use bitvec_base::Window;
 use bitvec_cells::{CellsRead, Shared, fits_max_bits, has_window};
-use bitvec_run::Refusal;
+use bitvec_commands::Refusal;
 use bitvec_store::BitStore;
 
 /// The order that begins with the least significant bit of an element.

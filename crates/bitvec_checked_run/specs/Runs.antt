@@ -3,10 +3,10 @@ use Rattle.std.specs.Prelude.{◌≡◌, ◌≢◌, ◌≤◌, ℕ, Bool, List, 
 use Rattle.std.specs.List.{list_all}
 use Rattle.bitvec_base.specs.declared.window.Window.{Window}
 use Rattle.bitvec_base.specs.Memory.{Writes, list_in, memory_bits}
-use Rattle.bitvec_run.specs.declared.command.Reply.{Reply}
+use Rattle.bitvec_commands.specs.declared.command.Reply.{Reply}
 use Rattle.bitvec_run.specs.declared.field_step.FieldStep.{FieldStep}
 use Rattle.bitvec_run.specs.FieldRows.{field_outcome}
-use Rattle.bitvec_run.specs.Rows.{row_list, row_reply}
+use Rattle.bitvec_commands.specs.Rows.{row_list, row_reply}
 use Rattle.bitvec_run.specs.Fold.{list_after, replies_of}
 use Rattle.bitvec_checked_run.specs.declared.replies.RawReply.{RawReply}
 use Rattle.bitvec_checked_run.specs.declared.steps.RawStep.{RawStep}
@@ -41,12 +41,13 @@ raw_replies high b s right list steps = map raw_reply (replies_of (field_reply h
 abbrev pub list_after_steps : Bool → ℕ → ℕ → List Bool → List Bool → List RawStep → List Bool
 list_after_steps high b s right list steps = list_after (field_list high b s right) list (map step_of steps)
 
+-- what steps did through a window of a memory, beside all bits of a right memory: places without a step stay
+pub record RunsSteps (high : Bool) (b : ℕ) (at : ℕ → ℕ → ℕ) (window : Window) (steps : List RawStep) (right old new : List ℕ) (replies_old replies_new : List RawReply) : Type 0 where
+  pub replies : replies_new ≡ raw_replies high b window.start (memory_bits b at right) (list_in b at old window) steps ++ drop (length steps) replies_old
+  pub writes : Writes b at old new window (list_after_steps high b window.start (memory_bits b at right) (list_in b at old window) steps)
+
 module _ {E : Type 0} (order b : ℕ) (value : E → ℕ) where
-  -- the right list is that of all bits of the right memory; places without a step stay
   pub record Runs (window : Window) (old new right : List E) (steps : List RawStep) (replies_old replies_new : List RawReply) (status : ℕ) : Type 0 where
     pub status_is : status ≡ or_next (memories_status order b (map value old) window (map value right)) (steps_status steps (length replies_old))
-    pub replies : status ≡ 0 → Under order (λ at high.
-        replies_new ≡ raw_replies high b window.start (memory_bits b at (map value right)) (list_in b at (map value old) window) steps ++ drop (length steps) replies_old)
-    pub writes : status ≡ 0 → Under order (λ at high.
-        Writes b at (map value old) (map value new) window (list_after_steps high b window.start (memory_bits b at (map value right)) (list_in b at (map value old) window) steps))
+    pub runs : status ≡ 0 → Under order (λ at high. RunsSteps high b at window steps (map value right) (map value old) (map value new) replies_old replies_new)
     pub unchanged : status ≢ 0 → (new ≡ old) × (replies_new ≡ replies_old)

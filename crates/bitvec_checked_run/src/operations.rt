@@ -5,7 +5,8 @@ ghost use Rattle.bitvec_checked_run.specs.Steps.{operation_of};
 
 use crate::steps::RawStep;
 use bitvec_base::Window;
-use bitvec_run::{FieldOp, Op};
+use bitvec_commands::Op;
+use bitvec_run::FieldOp;
 
 pub const GET: u32 = 0;
 

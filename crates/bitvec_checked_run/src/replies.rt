@@ -3,7 +3,7 @@ ghost use Rattle.std.specs.Prelude.{◌≡◌};
 ghost use Rattle.bitvec_checked_run.specs.Steps.{ordering_number};
 
 use bitvec_checked::{DONE, NONE};
-use bitvec_run::Reply;
+use bitvec_commands::Reply;
 use std::cmp::Ordering;
 
 /// The reply to a step.

@@ -1,7 +1,7 @@
 //! Runs of whole lists of steps.
-ghost use Rattle.std.specs.Prelude.{◌≡◌, ◌++◌, drop, length, map};
-ghost use Rattle.bitvec_base.specs.Memory.{FitsMaxBits, HasWindow, Writes, list_in, memory_bits};
-ghost use Rattle.bitvec_checked_run.specs.Runs.{FitRoom, Runs, are_steps, list_after_steps, raw_replies, steps_status};
+ghost use Rattle.std.specs.Prelude.{◌≡◌, length, map};
+ghost use Rattle.bitvec_run.specs.Runs.{CanRun};
+ghost use Rattle.bitvec_checked_run.specs.Runs.{FitRoom, Runs, RunsSteps, are_steps, steps_status};
 ghost use Rattle.bitvec_checked.specs.Statuses.{bits_from};
 
 use crate::operations::OPERATIONS;
@@ -11,7 +11,7 @@ use bitvec_base::{Lsb0, Msb0, Window};
 use bitvec_cells::{Cells, CellsRead, Exclusive, Shared};
 use bitvec_checked::{DONE, LSB0, memories_status, or_next};
 use bitvec_engine::SliceOrder;
-use bitvec_run::{carry_out_field, whole};
+use bitvec_run::{FieldStep, RunStep, whole};
 use bitvec_numbers::FieldOrder;
 use bitvec_store::BitStore;
 
@@ -78,12 +78,10 @@ fn run_in<T: BitStore, O: SliceOrder + FieldOrder>(
     steps: &[RawStep],
     replies: &mut [RawReply],
 )
-    requires window { HasWindow T.BITS (map T.value elements.old) window }
-    requires right { FitsMaxBits T.BITS (map T.value right.now) }
+    requires memories { CanRun T.BITS (map T.value elements.old) window (map T.value right.now) }
     requires fit { FitRoom steps.now (length replies.old) }
-    ensures replies { replies.new ≡ raw_replies O.HIGH T.BITS window.start (memory_bits T.BITS O.at (map T.value right.now)) (list_in T.BITS O.at (map T.value elements.old) window) steps.now ++ drop (length steps.now) replies.old }
-    ensures writes { Writes T.BITS O.at (map T.value elements.old) (map T.value elements.new) window
-        (list_after_steps O.HIGH T.BITS window.start (memory_bits T.BITS O.at (map T.value right.now)) (list_in T.BITS O.at (map T.value elements.old) window) steps.now) }
+    ensures { RunsSteps O.HIGH T.BITS O.at window steps.now (map T.value right.now)
+        (map T.value elements.old) (map T.value elements.new) replies.old replies.new }
 {
     let mut cells = Exclusive::new(elements);
     let mut beside = Shared::new(right);
@@ -102,17 +100,18 @@ where
     O: SliceOrder + FieldOrder,
     C: Cells,
     D: CellsRead<Elem = C::Elem>,
-    requires window { HasWindow C.Elem.BITS (C.numbers cells.old) window }
-    requires right { FitsMaxBits C.Elem.BITS (D.numbers right.old) }
+    requires memories { CanRun C.Elem.BITS (C.numbers cells.old) window (D.numbers right.old) }
     requires fit { FitRoom steps.now (length replies.old) }
-    ensures replies { replies.new ≡ raw_replies O.HIGH C.Elem.BITS window.start (memory_bits C.Elem.BITS O.at (D.numbers right.old)) (list_in C.Elem.BITS O.at (C.numbers cells.old) window) steps.now ++ drop (length steps.now) replies.old }
-    ensures writes { Writes C.Elem.BITS O.at (C.numbers cells.old) (C.numbers cells.new) window
-        (list_after_steps O.HIGH C.Elem.BITS window.start (memory_bits C.Elem.BITS O.at (D.numbers right.old)) (list_in C.Elem.BITS O.at (C.numbers cells.old) window) steps.now) }
+    ensures runs { RunsSteps O.HIGH C.Elem.BITS O.at window steps.now (D.numbers right.old)
+        (C.numbers cells.old) (C.numbers cells.new) replies.old replies.new }
     ensures borrow { C.borrow cells.new ≡ C.borrow cells.old }
 {
     let source = whole(right);
     for index in 0..steps.len() {
-        let reply = carry_out_field::<O, C, D>(cells, window, right, source, steps[index].step());
+        let next = steps[index].step();
+        let reply = <FieldStep as RunStep<O>>::carry_out::<C, D>(
+            next, cells, window, right, source,
+        );
         replies[index] = RawReply::new(reply);
     }
 }

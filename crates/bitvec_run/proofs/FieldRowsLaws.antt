@@ -2,15 +2,16 @@
 use Rattle.std.specs.Prelude.{◌≡◌, ℕ, ◌+◌, ◌-◌, Bool, true, false, Some, None, List, refl}
 use Rattle.std.proofs.Common.{sym, ◌∙◌, ap, subst, ⊎_elim}
 use Rattle.std.proofs.lemmas.Bool.{and_from, cases_Bool, le-leb}
-use Rattle.bitvec_run.specs.declared.command.Op.{Op}
-use Rattle.bitvec_run.specs.declared.command.Refusal.{Refusal}
-use Rattle.bitvec_run.specs.Rows.{CommandRow, on_range, or_else, range_lies, refused, unless}
+use Rattle.bitvec_commands.specs.declared.command.Op.{Op}
+use Rattle.bitvec_commands.specs.declared.command.Refusal.{Refusal}
+use Rattle.bitvec_commands.specs.Rows.{CommandRow, on_range, or_else, range_lies, refused, unless}
 use Rattle.bitvec_run.specs.Runs.{step_outcome, step_row}
 use Rattle.bitvec_run.specs.RunsLaws.{outcome-is}
 use Rattle.bitvec_run.specs.declared.field_step.FieldOp.{FieldOp}
 use Rattle.bitvec_run.specs.declared.field_step.FieldOp.TheVariants.{LoadBe, LoadLe, Plain, StoreBe, StoreLe}
 use Rattle.bitvec_run.specs.declared.field_step.FieldStep.{FieldStep}
-use Rattle.bitvec_run.specs.FieldRows.{FitsTransfer, IsTransfer, field_outcome, field_row, field_step_row, width_refusal}
+use Rattle.bitvec_run.specs.FieldRows.{field_outcome, field_row, field_step_row, width_refusal}
+use Rattle.bitvec_run.specs.Fits.{FitsTransfer, IsTransfer}
 
 plain-outcome : (high : Bool) (b s : ℕ) (right : List Bool) (n from to : ℕ) (op : Op) → step_outcome right n (record { from = from; to = to; op = op }) ≡ field_outcome high b s right n (record { from = from; to = to; op = Plain op })
 unfolding field_step_row step_row

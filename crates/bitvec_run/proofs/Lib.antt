@@ -1,2 +1,1 @@
 pub mod FieldRowsLaws
-pub mod FollowsLaws

@@ -2,12 +2,12 @@
 --
 -- `s` is the place of the window's first bit in a memory of b-bit elements, under an order that is `high` or not; `right` is the right
 -- list, and the window's list has n bits.
-use Rattle.std.specs.Prelude.{ℕ, ◌+◌, ◌-◌, ◌≤◌, Bool, ◌&&◌, nat_le, if◌then◌else◌, Option, List, ⊤}
-use Rattle.bitvec_run.specs.declared.command.Refusal.{Refusal}
-use Rattle.bitvec_run.specs.declared.command.Reply.TheVariants.{Number}
-use Rattle.bitvec_run.specs.Commands.{op_row}
-use Rattle.bitvec_run.specs.Costs.{fill_cost, scan_cost}
-use Rattle.bitvec_run.specs.Rows.{CommandRow, asks, edits, on_range, outcome, range_lies, refused, unless}
+use Rattle.std.specs.Prelude.{ℕ, ◌+◌, ◌-◌, Bool, ◌&&◌, nat_le, if◌then◌else◌, Option, List}
+use Rattle.bitvec_commands.specs.declared.command.Refusal.{Refusal}
+use Rattle.bitvec_commands.specs.declared.command.Reply.TheVariants.{Number}
+use Rattle.bitvec_commands.specs.Commands.{op_row}
+use Rattle.bitvec_commands.specs.Costs.{fill_cost, scan_cost}
+use Rattle.bitvec_commands.specs.Rows.{CommandRow, asks, edits, on_range, outcome, range_lies, refused, unless}
 use Rattle.bitvec_run.specs.declared.field_step.FieldOp.{FieldOp}
 use Rattle.bitvec_run.specs.declared.field_step.FieldOp.TheVariants.{LoadBe, LoadLe, Plain, StoreBe, StoreLe}
 use Rattle.bitvec_run.specs.declared.field_step.FieldStep.{FieldStep}
@@ -24,18 +24,6 @@ field_row high b s right m LoadLe = asks (width_refusal m) (λ list. Number (loa
 field_row high b s right m LoadBe = asks (width_refusal m) (λ list. Number (loaded_be high b s list)) (scan_cost m)
 field_row high b s right m (StoreLe v) = edits (width_refusal m) (stored_le high b s v) (fill_cost m)
 field_row high b s right m (StoreBe v) = edits (width_refusal m) (stored_be high b s v) (fill_cost m)
-
--- it loads or stores a number
-abbrev pub IsTransfer : FieldOp → Type 0
-IsTransfer (Plain op) = ⊥
-IsTransfer _ = ⊤
-
--- the bits from..to of a list of n are a field
-pub record FitsTransfer (n from to : ℕ) : Type 0 where
-  pub order : from ≤ to
-  pub bound : to ≤ n
-  pub some : 1 ≤ to - from
-  pub most : to - from ≤ 128
 
 -- a step is its command on its range, cut by the places of the memory; the range is tested before the command's own condition
 unfoldable pub field_step_row : Bool → ℕ → ℕ → List Bool → ℕ → FieldStep → CommandRow

@@ -1,7 +1,7 @@
 -- Steps made one after the other, whatever a step is: `next` is what a step makes of a list, and `reply` what it answers.
 use Rattle.std.specs.Prelude.{List, [], ◌∷◌}
 use Rattle.std.specs.List.{sum_by}
-use Rattle.bitvec_run.specs.Costs.{Cost}
+use Rattle.bitvec_commands.specs.Costs.{Cost}
 
 module _ {L S : Type 0} (next : L → S → L) where
   -- the list after them

@@ -5,7 +5,7 @@ use Rattle.std.proofs.lemmas.List.Sums.{sum_by_more}
 use Rattle.std.proofs.lemmas.List.{take_all, take_more}
 use Rattle.bitvec_cells.specs.declared.cells.CellsRead.{Ghosts as Access}
 use Rattle.bitvec_cells.specs.Access.{CostsAtMost, OnlyReadsAtMost}
-use Rattle.bitvec_run.specs.Costs.{Cost}
+use Rattle.bitvec_commands.specs.Costs.{Cost}
 use Rattle.bitvec_run.specs.Fold.{list_after, replies_of, cost_of}
 
 module _ {L S : Type 0} (next : L → S → L) where

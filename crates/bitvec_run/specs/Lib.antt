@@ -1,13 +1,8 @@
-pub mod Commands
-pub mod CommandsLaws
-pub mod Costs
 pub mod FieldRows
+pub mod Fits
 pub mod Fold
 pub mod FoldLaws
-pub mod Follows
-pub mod Groups
 pub mod RanLaws
-pub mod Rows
 pub mod Runs
 pub mod RunsLaws
 pub mod WordRunsLaws

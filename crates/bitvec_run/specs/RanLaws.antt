@@ -1,5 +1,5 @@
 -- A run, step by step, whatever a step is.
-use Rattle.std.specs.Prelude.{◌≡◌, ℕ, ◌+◌, ◌*◌, ◌<◌, ◌≤◌, Bool, refl, List, [], ◌∷◌, ◌++◌, length, take, slice_index_or}
+use Rattle.std.specs.Prelude.{◌≡◌, ℕ, ◌+◌, ◌*◌, ◌<◌, ◌≤◌, Bool, refl, List, [], ◌∷◌, ◌++◌, length, take, slice_index_or, Err, Ok, Vec, vec_items}
 use Rattle.std.proofs.Common.{arith, sym, ◌∙◌, ap, subst}
 use Rattle.std.proofs.lemmas.List.{take_all}
 use Rattle.bitvec_base.specs.declared.window.Window.{Window}
@@ -9,13 +9,15 @@ use Rattle.bitvec_base.specs.SliceLaws.{range-all}
 use Rattle.bitvec_base.specs.Window.{window_of}
 use Rattle.bitvec_base.specs.WritesLaws.{Writes-holds, Writes-is, Writes-nothing, Writes-then}
 use Rattle.bitvec_cells.specs.declared.cells.CellsRead.{Ghosts as Access}
-use Rattle.bitvec_run.specs.declared.command.Reply.{Reply}
-use Rattle.bitvec_run.specs.Costs.{Cost, place_of}
+use Rattle.bitvec_commands.specs.declared.command.Reply.{Reply}
+use Rattle.bitvec_commands.specs.Costs.{Cost, place_of}
 use Rattle.bitvec_run.specs.Fold.{list_after, replies_of}
 use Rattle.bitvec_run.specs.FoldLaws.{after-next, costs-next, reads-next, replies-next}
-use Rattle.bitvec_run.specs.Follows.{Follows, FollowsBoth}
-use Rattle.bitvec_run.specs.Rows.{CommandRow, row_list, row_reply}
-use Rattle.bitvec_run.specs.Runs.{RunsBy, whole_window}
+use Rattle.bitvec_commands.specs.Follows.{Follows, FollowsBoth}
+use Rattle.bitvec_commands.specs.Rows.{CommandRow, row_list, row_reply}
+use Rattle.bitvec_run.specs.Runs.{CanRun, FailsRun, RunsBy, RunsOrFails, whole_window}
+use Rattle.bitvec_run.specs.RunsLaws.{errs-exactly}
+use Rattle.bitvec_run.specs.declared.run_error.RunError.{RunError}
 
 -- The list of a memory's whole window is all bits of the memory.
 pub list-whole : (b : ℕ) (at : ℕ → ℕ → ℕ) (xs : List ℕ) → list_in b at xs (whole_window b xs) ≡ memory_bits b at xs
@@ -89,3 +91,28 @@ module _ {E F C D S : Type 0} (access : Access C E) (beside : Access D F) (row_o
       → RunsBy access beside row_of b at words window (take i steps) old new right_old right_new made → RunsBy access beside row_of b at words window steps old new right_old right_new made
   RunsBy-all b at words window steps i old new right_old right_new made over ran =
       subst (λ (done : List S). RunsBy access beside row_of b at words window done old new right_old right_new made) (take_all i steps over) ran
+
+-- a run that was made, and one that wasn't
+module _ {E F C D S A : Type 0} (access : Access C E) (beside : Access D F) (row_of : List Bool → ℕ → S → CommandRow) (b : ℕ) (at : ℕ → ℕ → ℕ) (words : Bool) (window : Window) (steps : List S) where
+  -- A run that could be made, and did what its rows say, meets what a run promises.
+  pub RunsOrFails-ran : (old new : C) (right_old right_new : D) (replies : Vec Reply A) → CanRun b (access.numbers old) window (beside.numbers right_old)
+      → RunsBy access beside (row_of (memory_bits b at (beside.numbers right_old))) b at words window steps old new right_old right_new (vec_items replies)
+      → RunsOrFails access beside row_of b at words window steps old new right_old right_new (Ok replies)
+  RunsOrFails-ran old new right_old right_new replies can ran = record {
+    runs = ran;
+    made = can;
+    fails = tt;
+    errors = errs-exactly b (access.numbers old) window (beside.numbers right_old) (length steps) (Ok replies) can tt;
+    unchanged = tt;
+  }
+
+  -- A run that failed as it should, and did nothing before, meets it too.
+  pub RunsOrFails-failed : (old : C) (right : D) (why : RunError) → FailsRun b (access.numbers old) window (beside.numbers right) (length steps) why
+      → RunsOrFails {A = A} access beside row_of b at words window steps old old right right (Err why)
+  RunsOrFails-failed old right why fails = record {
+    runs = tt;
+    made = tt;
+    fails = fails;
+    errors = errs-exactly b (access.numbers old) window (beside.numbers right) (length steps) (Err why) tt fails;
+    unchanged = (record { numbers = refl; borrow = refl; loads = omega arith; stores = refl }, record { numbers = refl; borrow = refl; loads = omega arith; stores = refl });
+  }

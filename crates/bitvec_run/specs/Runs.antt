@@ -1,21 +1,20 @@
 -- When a run is made, and what its steps mean on plain lists of truth values.
 --
 -- `right` is the right list, and `list` the window's, of n bits.
-use Rattle.std.specs.Prelude.{◌≡◌, ◌↔◌, ℕ, ◌+◌, ◌-◌, ◌*◌, ◌<◌, ◌≤◌, Bool, if◌then◌else◌, List, length, Result, Err, IsOk}
+use Rattle.std.specs.Prelude.{◌≡◌, ◌↔◌, ℕ, ◌-◌, ◌*◌, ◌<◌, Bool, if◌then◌else◌, List, length, Result, Err, IfErr, IfOk, IsOk, OnErr, OnOk, Vec, vec_items}
 use Rattle.bitvec_base.specs.declared.window.Window.{Window}
-use Rattle.bitvec_base.specs.Memory.{FitsMaxBits, HasWindow, Writes, list_in}
+use Rattle.bitvec_base.specs.Memory.{FitsMaxBits, HasWindow, Writes, list_in, memory_bits}
 use Rattle.bitvec_cells.specs.declared.cells.CellsRead.{Ghosts as Access}
-use Rattle.bitvec_cells.specs.Access.{CostsAtMost, OnlyReadsAtMost}
-use Rattle.bitvec_run.specs.declared.command.Refusal.{Refusal}
-use Rattle.bitvec_run.specs.declared.command.Reply.{Reply}
-use Rattle.bitvec_run.specs.declared.command.RunError.{RunError}
-use Rattle.bitvec_run.specs.declared.command.RunError.TheVariants as error
-use Rattle.bitvec_run.specs.declared.command.Step.{Step}
-use Rattle.bitvec_run.specs.Commands.{op_row}
-use Rattle.bitvec_run.specs.Costs.{Cost, Place, place_of}
+use Rattle.bitvec_cells.specs.Access.{CostsAtMost, OnlyReads, OnlyReadsAtMost}
+use Rattle.bitvec_commands.specs.declared.command.Refusal.{Refusal}
+use Rattle.bitvec_commands.specs.declared.command.Reply.{Reply}
+use Rattle.bitvec_run.specs.declared.run_error.RunError.{RunError}
+use Rattle.bitvec_run.specs.declared.run_error.RunError.TheVariants as error
+use Rattle.bitvec_run.specs.declared.step.Step.{Step}
+use Rattle.bitvec_commands.specs.Commands.{op_row}
+use Rattle.bitvec_commands.specs.Costs.{Cost, Place, place_of}
 use Rattle.bitvec_run.specs.Fold.{cost_of, list_after, replies_of}
-use Rattle.bitvec_run.specs.Groups.{FitsList, FitsRight}
-use Rattle.bitvec_run.specs.Rows.{CommandRow, on_range, outcome, range_lies, refused, row_list, row_reply}
+use Rattle.bitvec_commands.specs.Rows.{CommandRow, on_range, outcome, range_lies, refused, row_list, row_reply}
 
 -- the memory has the window, and the right memory has at most `max_bits` bits
 pub record CanRun (b : ℕ) (xs : List ℕ) (window : Window) (ys : List ℕ) : Type 0 where
@@ -47,25 +46,24 @@ module _ {E F C D S : Type 0} (access : Access C E) (beside : Access D F) (row_o
     pub cost : CostsAtMost access old new (run_cost row_of window.len (place_of b words window) steps).loads (run_cost row_of window.len (place_of b words window) steps).stores
     pub right : OnlyReadsAtMost beside right_old right_new (run_cost row_of window.len (place_of b words window) steps).right_loads
 
+-- what comes of a run of steps that are rows beside a right list, which has all bits of the right memory
+module _ {E F C D S A : Type 0} (access : Access C E) (beside : Access D F) (row_of : List Bool → ℕ → S → CommandRow) where
+  -- The run was made and did what its rows say, or it failed exactly as it had to, and then changed, loaded and stored nothing.
+  pub record RunsOrFails (b : ℕ) (at : ℕ → ℕ → ℕ) (words : Bool) (window : Window) (steps : List S) (old new : C) (right_old right_new : D) (result : Result (Vec Reply A) RunError) : Type 0 where
+    pub runs : IfOk result (λ replies. RunsBy access beside (row_of (memory_bits b at (beside.numbers right_old))) b at words window steps old new right_old right_new (vec_items replies))
+    pub made : OnOk result (CanRun b (access.numbers old) window (beside.numbers right_old))
+    pub fails : IfErr result (FailsRun b (access.numbers old) window (beside.numbers right_old) (length steps))
+    pub errors : ErrsExactly b (access.numbers old) window (beside.numbers right_old) (length steps) result
+    pub unchanged : OnErr result (OnlyReads access old new 0 × OnlyReads beside right_old right_new 0)
+
 -- all bits of a memory
 abbrev pub whole_window : ℕ → List ℕ → Window
 whole_window b xs = record { start = 0; len = b * length xs }
-
--- a window of the list that `source` holds, as one of the memory
-abbrev pub window_inside : Window → Window → Window
-window_inside source window = record { start = source.start + window.start; len = window.len }
 
 -- a step is its command on its range; the range is tested before the command's own conditions
 unfoldable pub step_row : List Bool → ℕ → Step → CommandRow
 step_row right n step =
     if range_lies n step.from step.to then on_range step.from step.to (op_row right (step.to - step.from) step.op) else refused Refusal.Range
-
--- what a step that isn't refused names is there, in its range of a list of n bits and in a right list of r
-pub record StepFits (n r : ℕ) (step : Step) : Type 0 where
-  pub order : step.from ≤ step.to
-  pub bound : step.to ≤ n
-  pub list : FitsList (step.to - step.from) step.op
-  pub right : FitsRight r step.op
 
 -- What comes of a step: what its row says, unless it is refused.
 abbrev pub step_outcome : List Bool → ℕ → Step → CommandRow

@@ -3,14 +3,15 @@ use Rattle.std.specs.Prelude.{◌≡◌, ℕ, ◌-◌, ◌≤◌, Bool, true, fa
 use Rattle.std.proofs.Common.{arith, sym, ◌∙◌, ap, ⊎_elim}
 use Rattle.std.proofs.lemmas.Bool.{cases_Bool}
 use Rattle.bitvec_base.specs.declared.window.Window.{Window}
-use Rattle.bitvec_run.specs.declared.command.Refusal.{Refusal}
-use Rattle.bitvec_run.specs.declared.command.RunError.{RunError}
-use Rattle.bitvec_run.specs.declared.command.RunError.TheVariants as error
-use Rattle.bitvec_run.specs.declared.command.Step.{Step}
-use Rattle.bitvec_run.specs.Commands.{op_row, op_refusal}
-use Rattle.bitvec_run.specs.CommandsLaws.{fits_list, fits_right}
-use Rattle.bitvec_run.specs.Rows.{CommandRow, on_range, outcome, range_lies, refused, unless_refused}
-use Rattle.bitvec_run.specs.Runs.{CanRun, ErrsExactly, FailsRun, StepFits, step_outcome, step_row}
+use Rattle.bitvec_commands.specs.declared.command.Refusal.{Refusal}
+use Rattle.bitvec_run.specs.declared.run_error.RunError.{RunError}
+use Rattle.bitvec_run.specs.declared.run_error.RunError.TheVariants as error
+use Rattle.bitvec_run.specs.declared.step.Step.{Step}
+use Rattle.bitvec_commands.specs.Commands.{op_row, op_refusal}
+use Rattle.bitvec_commands.specs.CommandsLaws.{fits_list, fits_right}
+use Rattle.bitvec_run.specs.Fits.{StepFits}
+use Rattle.bitvec_commands.specs.Rows.{CommandRow, on_range, outcome, range_lies, refused, unless_refused}
+use Rattle.bitvec_run.specs.Runs.{CanRun, ErrsExactly, FailsRun, step_outcome, step_row}
 
 -- What comes of a row is what its refusal, computed elsewhere, makes of it.
 pub outcome-is : (row : CommandRow) (refusal : Option Refusal) → row.refusal ≡ refusal → outcome row ≡ unless_refused refusal row

@@ -9,15 +9,15 @@ use Rattle.bitvec_cells.specs.Access.{CostsAtMost, OnlyReadsAtMost}
 use Rattle.bitvec_store.specs.Width.{IsWidth}
 use Rattle.bitvec_engine.specs.WordSteps.{EditsInSteps, ReadsInSteps, WritesInSteps, word_span}
 use Rattle.bitvec_engine.specs.WordStepsLaws.{edits-words, equal_loads-words, equals-words, reads-words, writes-words}
-use Rattle.bitvec_run.specs.declared.command.Op.{Op}
-use Rattle.bitvec_run.specs.declared.command.Op.TheVariants.{And, CopyFrom, CopyWithin, Eq, Or, Xor}
-use Rattle.bitvec_run.specs.declared.command.Refusal.{Refusal}
-use Rattle.bitvec_run.specs.declared.command.Reply.{Reply}
-use Rattle.bitvec_run.specs.declared.command.Step.{Step}
-use Rattle.bitvec_run.specs.Commands.{op_row}
-use Rattle.bitvec_run.specs.Costs.{Cost, Place, place_after, place_of}
-use Rattle.bitvec_run.specs.Groups.{IsOperator}
-use Rattle.bitvec_run.specs.Rows.{CommandRow, on_range, outcome, range_lies, unless_refused}
+use Rattle.bitvec_commands.specs.declared.command.Op.{Op}
+use Rattle.bitvec_commands.specs.declared.command.Op.TheVariants.{And, CopyFrom, CopyWithin, Eq, Or, Xor}
+use Rattle.bitvec_commands.specs.declared.command.Refusal.{Refusal}
+use Rattle.bitvec_commands.specs.declared.command.Reply.{Reply}
+use Rattle.bitvec_run.specs.declared.step.Step.{Step}
+use Rattle.bitvec_commands.specs.Commands.{op_row}
+use Rattle.bitvec_commands.specs.Costs.{Cost, Place, place_after, place_of}
+use Rattle.bitvec_commands.specs.Groups.{IsOperator}
+use Rattle.bitvec_commands.specs.Rows.{CommandRow, on_range, outcome, range_lies, unless_refused}
 use Rattle.bitvec_run.specs.Runs.{RunsBy, run_cost, step_outcome}
 use Rattle.bitvec_run.specs.RunsLaws.{step_row-inside, step_row-outside}
 

@@ -1,14 +1,12 @@
 //! Runs of whole lists of commands, those with numbers among them.
-ghost use Rattle.std.specs.Prelude.{◌*◌, ◌<◌, length, IfErr, IfOk, OnErr, OnOk};
-ghost use Rattle.bitvec_base.specs.Memory.{memory_bits};
-ghost use Rattle.bitvec_cells.specs.Access.{OnlyReads};
-ghost use Rattle.bitvec_run.specs.Runs.{CanRun, ErrsExactly, FailsRun, RunsBy};
 ghost use Rattle.bitvec_run.specs.FieldRows.{field_outcome};
+ghost use Rattle.bitvec_run.specs.Runs.{RunsOrFails};
 
-use crate::field_stepping::field_step;
-use crate::{FieldStep, Reply, RunError, whole};
+use crate::running::run_steps;
+use crate::{FieldStep, RunError};
 use bitvec_base::Window;
-use bitvec_cells::{Cells, CellsRead, fits_max_bits, has_window};
+use bitvec_cells::{Cells, CellsRead};
+use bitvec_commands::Reply;
 use bitvec_engine::SliceOrder;
 use bitvec_numbers::FieldOrder;
 use bitvec_store::BitStore;
@@ -33,27 +31,8 @@ where
     A: Allocator,
     C: Cells,
     D: CellsRead<Elem = C::Elem>,
-    ensures runs { let row = field_outcome O.HIGH C.Elem.BITS window.start (memory_bits C.Elem.BITS O.at (D.numbers right.old)) in
-        IfOk result (λ replies. RunsBy C.CellsRead D.CellsRead row C.Elem.BITS O.at O.WORDS window steps.now cells.old cells.new right.old right.new replies.items) }
-
-    // When it is made, and when each error comes.
-    ensures made { OnOk result (CanRun C.Elem.BITS (C.numbers cells.old) window (D.numbers right.old)) }
-    ensures fails { IfErr result (FailsRun C.Elem.BITS (C.numbers cells.old) window (D.numbers right.old) (length steps.now)) }
-    ensures errors { ErrsExactly C.Elem.BITS (C.numbers cells.old) window (D.numbers right.old) (length steps.now) result }
-    ensures unchanged { OnErr result (OnlyReads C.CellsRead cells.old cells.new 0 × OnlyReads D.CellsRead right.old right.new 0) }
+    ensures { RunsOrFails C.CellsRead D.CellsRead (field_outcome O.HIGH C.Elem.BITS window.start) C.Elem.BITS O.at O.WORDS window steps.now
+        cells.old cells.new right.old right.new result }
 {
-    if !has_window(cells, window) {
-        return Err(RunError::Window);
-    }
-    if !fits_max_bits(right) {
-        return Err(RunError::Right);
-    }
-    let Ok(mut replies) = Vec::with_capacity(alloc, steps.len()) else {
-        return Err(RunError::Memory);
-    };
-    let source = whole(right);
-    for next in steps {
-        replies.push_reserved(field_step::<O, C, D>(cells, window, right, source, *next));
-    }
-    Ok(replies)
+    run_steps::<O, FieldStep, A, C, D>(alloc, cells, window, right, steps)
 }

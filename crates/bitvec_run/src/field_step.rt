@@ -1,5 +1,5 @@
 //! Commands with numbers.
-use crate::Op;
+use bitvec_commands::Op;
 
 /// A command on the bits of a step's sub-range, `m` of them. The loads and stores are those of
 /// `BitField`; they are refused by `Refusal::Width` unless `m` is from 1 to 128.

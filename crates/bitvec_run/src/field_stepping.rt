@@ -1,44 +1,37 @@
 //! One step of a run with numbers.
 ghost use Rattle.std.specs.Prelude.{◌≡◌, ◌-◌, ◌≤◌, Bool, List, IfNone};
-ghost use Rattle.bitvec_base.specs.Memory.{HasWindow, list_in};
-ghost use Rattle.bitvec_run.specs.Follows.{Follows, FollowsBoth};
-ghost use Rattle.bitvec_run.specs.Rows.{or_else, range_lies, unless};
-ghost use Rattle.bitvec_run.specs.declared.command.Refusal.{Refusal};
-ghost use Rattle.bitvec_run.specs.FieldRows.{FitsTransfer, IsTransfer, field_outcome, field_row, width_refusal};
+ghost use Rattle.bitvec_base.specs.Memory.{HasWindow};
+ghost use Rattle.bitvec_commands.specs.Follows.{Follows};
+ghost use Rattle.bitvec_commands.specs.Rows.{or_else, range_lies, unless};
+ghost use Rattle.bitvec_commands.specs.declared.command.Refusal.{Refusal};
+ghost use Rattle.bitvec_run.specs.FieldRows.{field_outcome, field_row, width_refusal};
+ghost use Rattle.bitvec_run.specs.Fits.{FitsTransfer, IsTransfer};
 
-use crate::{FieldOp, FieldStep, Refusal, Reply, Step, carry_out};
+use crate::{FieldOp, FieldStep, RunStep, Step};
 use bitvec_base::Window;
 use bitvec_cells::{Cells, CellsRead};
+use bitvec_commands::{Refusal, Reply};
 use bitvec_engine::SliceOrder;
 use bitvec_numbers::FieldOrder;
 use bitvec_store::BitStore;
 
-/// One step of a run in a window, whose right list is the one that `source` holds: it replies, and
-/// leaves in the window the list after it. Condition: each memory has at most `MAX_BITS` bits, and
-/// each window lies in its memory.
-pub fn field_step<O, C, D>(
-    cells: &mut C,
-    window: Window,
-    right: &mut D,
-    source: Window,
-    step: FieldStep,
-) -> Reply
-where
-    O: SliceOrder + FieldOrder,
-    C: Cells,
-    D: CellsRead<Elem = C::Elem>,
-    requires window { HasWindow C.Elem.BITS (C.numbers cells.old) window }
-    requires right_window { HasWindow C.Elem.BITS (D.numbers right.old) source }
-    ensures { let row = field_outcome O.HIGH C.Elem.BITS window.start (list_in C.Elem.BITS O.at (D.numbers right.old) source) window.len step in
-        FollowsBoth C.CellsRead D.CellsRead C.Elem.BITS O.at O.WORDS row window cells.old cells.new right.old right.new result }
-{
-    let FieldStep { from, to, op } = step;
-    if let FieldOp::Plain(op) = op {
-        return carry_out::<O, C, D>(cells, window, right, source, Step { from, to, op });
-    }
-    match transfer_refusal(from, to, window.len) {
-        Some(refusal) => Reply::Refused(refusal),
-        None => transfer::<O, C>(cells, window.range(from, to), op),
+impl<O: SliceOrder + FieldOrder> RunStep<O> for FieldStep {
+    ghost outcome = { field_outcome O.HIGH };
+
+    fn carry_out<C, D>(self, cells: &mut C, window: Window, right: &mut D, source: Window) -> Reply
+    where
+        C: Cells,
+        D: CellsRead<Elem = C::Elem>,
+    {
+        let FieldStep { from, to, op } = self;
+        if let FieldOp::Plain(op) = op {
+            let plain = Step { from, to, op };
+            return <Step as RunStep<O>>::carry_out::<C, D>(plain, cells, window, right, source);
+        }
+        match transfer_refusal(from, to, window.len) {
+            Some(refusal) => Reply::Refused(refusal),
+            None => transfer::<O, C>(cells, window.range(from, to), op),
+        }
     }
 }
 

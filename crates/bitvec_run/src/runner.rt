@@ -1,13 +1,11 @@
 //! Runs of whole lists of commands.
-ghost use Rattle.std.specs.Prelude.{◌≡◌, ◌*◌, ◌<◌, length, IfErr, IfOk, OnErr, OnOk};
-ghost use Rattle.bitvec_base.specs.Memory.{FitsMaxBits, memory_bits};
-ghost use Rattle.bitvec_cells.specs.Access.{OnlyReads};
-ghost use Rattle.bitvec_run.specs.Runs.{CanRun, ErrsExactly, FailsRun, RunsBy, step_outcome, whole_window};
+ghost use Rattle.bitvec_run.specs.Runs.{RunsOrFails, step_outcome};
 
-use crate::step::carry_out;
-use crate::{Reply, RunError, Step};
+use crate::running::run_steps;
+use crate::{RunError, Step};
 use bitvec_base::Window;
-use bitvec_cells::{Cells, CellsRead, fits_max_bits, has_window};
+use bitvec_cells::{Cells, CellsRead};
+use bitvec_commands::Reply;
 use bitvec_engine::SliceOrder;
 use bitvec_store::BitStore;
 use std::alloc::Allocator;
@@ -37,38 +35,8 @@ where
     A: Allocator,
     C: Cells,
     D: CellsRead<Elem = C::Elem>,
-    ensures runs { let row = step_outcome (memory_bits C.Elem.BITS O.at (D.numbers right.old)) in
-        IfOk result (λ replies. RunsBy C.CellsRead D.CellsRead row C.Elem.BITS O.at O.WORDS window steps.now cells.old cells.new right.old right.new replies.items) }
-
-    // When it is made, and when each error comes.
-    ensures made { OnOk result (CanRun C.Elem.BITS (C.numbers cells.old) window (D.numbers right.old)) }
-    ensures fails { IfErr result (FailsRun C.Elem.BITS (C.numbers cells.old) window (D.numbers right.old) (length steps.now)) }
-    ensures errors { ErrsExactly C.Elem.BITS (C.numbers cells.old) window (D.numbers right.old) (length steps.now) result }
-    ensures unchanged { OnErr result (OnlyReads C.CellsRead cells.old cells.new 0 × OnlyReads D.CellsRead right.old right.new 0) }
+    ensures { RunsOrFails C.CellsRead D.CellsRead step_outcome C.Elem.BITS O.at O.WORDS window steps.now
+        cells.old cells.new right.old right.new result }
 {
-    if !has_window(cells, window) {
-        return Err(RunError::Window);
-    }
-    if !fits_max_bits(right) {
-        return Err(RunError::Right);
-    }
-    let Ok(mut replies) = Vec::with_capacity(alloc, steps.len()) else {
-        return Err(RunError::Memory);
-    };
-    let source = whole(right);
-    for next in steps {
-        replies.push_reserved(carry_out::<O, C, D>(cells, window, right, source, *next));
-    }
-    Ok(replies)
-}
-
-/// All bits of a memory. Condition: it has at most `MAX_BITS`.
-pub fn whole<D: CellsRead>(memory: &D) -> Window
-    requires { FitsMaxBits D.Elem.BITS (D.numbers memory.now) }
-    ensures { result ≡ whole_window D.Elem.BITS (D.numbers memory.now) }
-{
-    Window {
-        start: 0,
-        len: memory.len() * D::Elem::BITS as usize,
-    }
+    run_steps::<O, Step, A, C, D>(alloc, cells, window, right, steps)
 }

@@ -7,11 +7,11 @@ use Rattle.bitvec_base.specs.Memory.{HasWindow, Writes, list_in}
 use Rattle.bitvec_base.specs.Window.{write_at}
 use Rattle.bitvec_base.specs.WritesLaws.{HasWindow-kept, HasWindow-range, Writes-holds, Writes-is, Writes-nothing, Writes-range, Writes-then, length-list, list-range}
 use Rattle.bitvec_cells.specs.declared.cells.CellsRead.{Ghosts as Access}
-use Rattle.bitvec_run.specs.declared.command.Reply.{Reply}
-use Rattle.bitvec_run.specs.declared.command.Step.{Step}
+use Rattle.bitvec_commands.specs.declared.command.Reply.{Reply}
+use Rattle.bitvec_run.specs.declared.step.Step.{Step}
 use Rattle.bitvec_run.specs.Fold.{list_after, replies_of}
 use Rattle.bitvec_run.specs.FoldLaws.{after-next, replies-next}
-use Rattle.bitvec_run.specs.Follows.{Follows}
+use Rattle.bitvec_commands.specs.Follows.{Follows}
 use Rattle.bitvec_run.specs.Runs.{step_outcome}
 use Rattle.bitvec_run_halves.specs.Sides.{halves_of, joined, side_lists, side_reply, side_window}
 use Rattle.bitvec_run_halves.specs.declared.halves.Side.{Side}

@@ -3,8 +3,8 @@ use Rattle.std.specs.Prelude.{◌≡◌, ℕ, Bool, List, ◌++◌, drop, take}
 use Rattle.bitvec_base.specs.declared.window.Window.{Window}
 use Rattle.bitvec_base.specs.Memory.{Writes, list_in}
 use Rattle.bitvec_base.specs.Window.{window_range}
-use Rattle.bitvec_run.specs.declared.command.Reply.{Reply}
-use Rattle.bitvec_run.specs.declared.command.Step.{Step}
+use Rattle.bitvec_commands.specs.declared.command.Reply.{Reply}
+use Rattle.bitvec_run.specs.declared.step.Step.{Step}
 use Rattle.bitvec_run.specs.Fold.{list_after, replies_of}
 use Rattle.bitvec_run.specs.Runs.{step_list, step_reply}
 use Rattle.bitvec_run_halves.specs.declared.halves.Side.{Side}

@@ -11,7 +11,8 @@ use crate::halves::side_window;
 use bitvec_base::Window;
 use bitvec_cells::{Cells, CellsRead, Exclusive, Shared};
 use bitvec_engine::SliceOrder;
-use bitvec_run::{Reply, Step, carry_out};
+use bitvec_commands::Reply;
+use bitvec_run::{RunStep, Step};
 use bitvec_slice::{BitSlice, BitSliceMut, Sealed, ViewMut};
 use bitvec_store::BitStore;
 
@@ -105,6 +106,6 @@ where
     for index in 0..steps.len() {
         let (side, next) = steps[index];
         let part = side_window(window, mid, side);
-        out[index] = carry_out::<O, C, D>(cells, part, right, source, next);
+        out[index] = <Step as RunStep<O>>::carry_out::<C, D>(next, cells, part, right, source);
     }
 }

@@ -1,7 +1,8 @@
 //! A run with numbers for whose replies there is no room.
 use bitvec_base::{Lsb0, Window};
 use bitvec_cells::{Exclusive, Shared};
-use bitvec_run::{FieldOp, FieldStep, Reply, RunError, run_fields};
+use bitvec_commands::Reply;
+use bitvec_run::{FieldOp, FieldStep, RunError, run_fields};
 use bitvec_test_support::Refusing;
 use std::alloc::Global;
 use std::mem::size_of;

@@ -2,7 +2,8 @@
 use bitvec_base::{Lsb0, Msb0, Window};
 use bitvec_cells::{Exclusive, Shared};
 use bitvec_engine::SliceOrder;
-use bitvec_run::{FieldOp, FieldStep, Op, Refusal, Reply, run_fields};
+use bitvec_commands::{Op, Refusal, Reply};
+use bitvec_run::{FieldOp, FieldStep, run_fields};
 use bitvec_numbers::FieldOrder;
 use bitvec_store::BitStore;
 use bitvec_test_support::Counted;

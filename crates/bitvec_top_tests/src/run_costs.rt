@@ -2,7 +2,8 @@
 use crate::run_slices::{StepRow, step};
 use bitvec_base::{Lsb0, Window};
 use bitvec_cells::{Exclusive, Shared};
-use bitvec_run::{Op, run};
+use bitvec_commands::Op;
+use bitvec_run::run;
 use bitvec_test_support::Counted;
 use std::alloc::Global;
 use std::process::Abort;

@@ -2,7 +2,8 @@
 use bitvec_base::Window;
 use bitvec_cells::{Exclusive, Shared};
 use bitvec_engine::SliceOrder;
-use bitvec_run::{Op, Reply, RunError, Step, run};
+use bitvec_commands::{Op, Reply};
+use bitvec_run::{RunError, Step, run};
 use bitvec_store::BitStore;
 use std::alloc::Allocator;
 

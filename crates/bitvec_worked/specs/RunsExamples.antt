@@ -1,7 +1,7 @@
 -- What steps of runs leave of lists, and reply, at values.
 use Rattle.std.specs.Prelude.{◌≡◌, Some, true, false, [], ◌∷◌, refl}
-use Rattle.bitvec_run.specs.declared.command.Op.TheVariants.{FirstZero, Invert}
-use Rattle.bitvec_run.specs.declared.command.Reply.TheVariants.{Index}
+use Rattle.bitvec_commands.specs.declared.command.Op.TheVariants.{FirstZero, Invert}
+use Rattle.bitvec_commands.specs.declared.command.Reply.TheVariants.{Index}
 use Rattle.bitvec.specs.Lists.{places_of}
 use Rattle.bitvec.specs.Runs.{step_list, step_reply, step_row}
 use Rattle.bitvec.specs.Window.{write_at}

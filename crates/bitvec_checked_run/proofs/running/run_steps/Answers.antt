@@ -11,7 +11,7 @@ use Rattle.bitvec_checked_run.proofs.running.run_steps.Goals as goal
 
 pub loop-index-init : goal.loop-index-init
 loop-index-init g c = record {
-  ran = record { replies = search rules; writes = Writes-nothing _ _ _ _ _ c.requires.window refl };
+  ran = record { replies = search rules; writes = Writes-nothing _ _ _ _ _ c.requires.memories.has_window refl };
   raw = search rules;
   rest = search rules;
   right = refl;
@@ -33,13 +33,13 @@ loop-index-preserved g c =
     let below : i < length steps = rw (length-map c.args.steps.now step_of) inside in
     let none : RawStep = record { from = 0; to = 0; first = 0; second = 0; third = 0; op = 0; bit = 0 } in
     let step = sym (get_or-map step_of c.args.steps.now i none (step_of none) inside) in
-    let did = rw (c.whole-source.ensures, inv.right, list-whole b place beside, c.step.ensures, step) at c.field_step-reply.ensures.left in
-    let next = Ran-next g.C.CellsRead row b place g.O.SliceOrder.WORDS list steps i _ c.args.window _ _ _ _ _ c.requires.window below inv.ran did in
+    let did = rw (c.whole-source.ensures, inv.right, list-whole b place beside, c.step.ensures, step) at c.carry_out-reply.ensures.left in
+    let next = Ran-next g.C.CellsRead row b place g.O.SliceOrder.WORDS list steps i _ c.args.window _ _ _ _ _ c.requires.memories.has_window below inv.ran did in
     record {
       ran = record { replies = refl; writes = next.writes };
-      raw = raw-next raw_reply _ _ c.field_step-reply.result c.loop-index.replies i c.new.result (has-place _ _ _ _ inside c.requires.fit.room inv.count) inv.raw c.new.ensures (sym next.replies);
+      raw = raw-next raw_reply _ _ c.carry_out-reply.result c.loop-index.replies i c.new.result (has-place _ _ _ _ inside c.requires.fit.room inv.count) inv.raw c.new.ensures (sym next.replies);
       rest = rest-next c.loop-index.replies c.args.replies.now i c.new.result inv.rest;
-      right = c.field_step-reply.ensures.right.numbers ∙ inv.right;
-      borrow = c.field_step-reply.ensures.left.cost.borrow ∙ inv.borrow;
+      right = c.carry_out-reply.ensures.right.numbers ∙ inv.right;
+      borrow = c.carry_out-reply.ensures.left.cost.borrow ∙ inv.borrow;
       count = search rules;
     }

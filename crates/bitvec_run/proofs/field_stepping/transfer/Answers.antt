@@ -1,6 +1,6 @@
 use Rattle.std.proofs.Common.{rules, Bool, List, ap}
 use Rattle.bitvec_base.specs.WritesLaws.{Writes-nothing}
-use Rattle.bitvec_run.specs.declared.command.Reply.TheVariants.{Number}
+use Rattle.bitvec_commands.specs.declared.command.Reply.TheVariants.{Number}
 use Rattle.bitvec_run.proofs.field_stepping.transfer.Goals as goal
 
 pub returns-in-LoadLe : goal.returns-in-LoadLe
