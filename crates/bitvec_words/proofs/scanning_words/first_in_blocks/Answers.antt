@@ -1,4 +1,4 @@
-use Rattle.std.proofs.Common.{arith, rules, sym, ◌∙◌, ap, Bool, List, ◌≡◌}
+use Rattle.std.proofs.Common.{◌/◌, arith, rules, sym, ◌∙◌, ap, Bool, List, ◌≡◌}
 use Rattle.bitvec_base.specs.Lists.{first_place}
 use Rattle.bitvec_base.specs.PlacesLaws.{first_place-nil}
 use Rattle.bitvec_words.specs.WholeLaws.{list-empty}

@@ -1,4 +1,4 @@
-use Rattle.std.proofs.Common.{◌/◌, arith}
+use Rattle.std.proofs.Common.{◌/◌, arith, rules, sym, ◌∙◌, ap, ◌≡◌}
 use Rattle.bitvec_words.proofs.CostLemmas.{reads-both, reads-most}
 use Rattle.bitvec_words.proofs.SplitLemmas.{split-behind, split-few, split-found, split-lacks}
 use Rattle.bitvec_words.proofs.WordScanLemmas.{block_whole, blocks-bits, parted-blocks}
