@@ -1,7 +1,7 @@
 //! Bits moved to another place of the same memory. Whole elements are moved from the end at which none
 //! is written over before it is read: the last ones first where `LATER`, which says that the place
 //! begins no earlier, else the first ones first, and it begins no later.
-ghost use Rattle.std.specs.Prelude.{if◌then◌else◌, ◌≡◌, ◌+◌, ◌*◌, ◌<◌, ◌≤◌, slice_index};
+ghost use Rattle.std.specs.Prelude.{if◌then◌else◌, ◌≡◌, ◌+◌, ◌-◌, ◌*◌, ◌<◌, ◌≤◌, slice_index};
 ghost use Rattle.bitvec_base.specs.Spans.{HasSpan};
 ghost use Rattle.bitvec_cells.specs.Access.{Costs, CostsAtMost};
 ghost use Rattle.bitvec_cells.specs.Cost.{touched_count};
@@ -16,6 +16,10 @@ use bitvec_store::BitStore;
 use bitvec_words::{
     Carried, Lanes, MANY_BITS, Stretch, Whole, WordOrder, at_known_skip, load_short, store_short,
 };
+
+/// How many whole elements are moved in a turn: so many that the compiler makes vectors of them before it unrolls the turn. By
+/// its own choice a turn has two vectors, and takes up to twice as long where its jump falls badly.
+const TURN: usize = 128;
 
 /// Moves the bits of a window to another of the same length. Condition: both lie in the memory, and
 /// aren't empty. The bits at both edges are loaded before the whole elements between them are moved,
@@ -94,7 +98,7 @@ fn shift_elements<O: WordOrder, C: Cells, const LATER: bool>(
     }
 }
 
-/// Moves whole elements as they are, each with one load and one store.
+/// Moves whole elements as they are, each with one load and one store: [`TURN`] of them in a turn, and then the rest.
 #[inline(always)]
 fn move_whole<O: BitOrder, C: Cells, const LATER: bool>(cells: &mut C, moved: Stretch)
     requires span { HasSpan C.Elem.BITS (C.numbers cells.old) (C.numbers cells.old) (elements_window C.Elem.BITS moved.first moved.count) (elements_window_from C.Elem.BITS moved.source 0 moved.count) }
@@ -102,10 +106,47 @@ fn move_whole<O: BitOrder, C: Cells, const LATER: bool>(cells: &mut C, moved: St
     ensures writes { CopiesElements C.Elem.BITS O.at (C.numbers cells.old) (C.numbers cells.new) (C.numbers cells.old) moved.first moved.source 0 moved.count }
     ensures cost { Costs C.CellsRead cells.old cells.new moved.count moved.count }
 {
-    for passed in 0..moved.count {
-        let place = next_place::<LATER>(passed, moved.count);
-        let element = cells.load(moved.source + place);
-        cells.store(moved.first + place, element);
+    let turns = moved.count / TURN;
+    for step in 0..turns {
+        let here = turn_place::<LATER>(step * TURN, TURN, moved.count);
+        move_each::<O, C, LATER>(cells, moved.first + here, moved.source + here, TURN);
+    }
+    let passed = turns * TURN;
+    let rest = moved.count - passed;
+    let behind = turn_place::<LATER>(passed, rest, moved.count);
+    move_each::<O, C, LATER>(cells, moved.first + behind, moved.source + behind, rest);
+}
+
+/// [`move_whole`], an element at a time.
+#[inline(always)]
+fn move_each<O: BitOrder, C: Cells, const LATER: bool>(
+    cells: &mut C,
+    first: usize,
+    source: usize,
+    count: usize,
+)
+    requires span { HasSpan C.Elem.BITS (C.numbers cells.old) (C.numbers cells.old) (elements_window C.Elem.BITS first count) (elements_window_from C.Elem.BITS source 0 count) }
+    requires towards { IsToward LATER first source }
+    ensures writes { CopiesElements C.Elem.BITS O.at (C.numbers cells.old) (C.numbers cells.new) (C.numbers cells.old) first source 0 count }
+    ensures cost { Costs C.CellsRead cells.old cells.new count count }
+{
+    for passed in 0..count {
+        let place = next_place::<LATER>(passed, count);
+        let element = cells.load(source + place);
+        cells.store(first + place, element);
+    }
+}
+
+/// The place of the first of `more` elements that are moved after `passed` others.
+fn turn_place<const LATER: bool>(passed: usize, more: usize, count: usize) -> usize
+    requires { passed + more ≤ count }
+    ensures place { result ≡ (if LATER then count - (passed + more) else passed) }
+    ensures fits { result + more ≤ count }
+{
+    if LATER {
+        count - (passed + more)
+    } else {
+        passed
     }
 }
 

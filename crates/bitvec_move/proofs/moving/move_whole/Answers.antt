@@ -1,30 +1,53 @@
-use Rattle.std.proofs.Common.{Bool, ◌≡◌, ◌+◌, ◌*◌, ◌∙◌, ap, nat_eq, not, slice_index}
-use Rattle.std.proofs.Math.Nat.{le_refl}
-use Rattle.bitvec_base.specs.Memory.{element_bits, list_in}
-use Rattle.bitvec_store.specs.WidthLaws.{width_some}
-use Rattle.bitvec_words.specs.Moves.{nth_place}
-use Rattle.bitvec_move.proofs.CostSums.{Costs-next, Costs-none}
-use Rattle.bitvec_move.proofs.WithinLaws.{CopiesSome-kept, CopiesSome-more, CopiesSome-none, list-whole_next, nth-waiting}
+use Rattle.std.proofs.Common.{ℕ, Bool, ◌≡◌, ◌<◌, ◌≤◌, ◌+◌, ◌-◌, ◌*◌, ◌/◌, arith, nat_eq, not}
+use Rattle.bitvec_move.proofs.CostSums.{Costs-none, Costs-sum}
+use Rattle.bitvec_move.proofs.TurnLaws.{CopiesSome-turn, CopiesSome-whole, turn-span, turn-toward}
+use Rattle.bitvec_move.proofs.WithinLaws.{CopiesSome-none}
 use Rattle.bitvec_move.proofs.moving.move_whole.Goals as goal
 
-pub loop-passed-init : goal.loop-passed-init
-loop-passed-init g c = record {
+-- a turn's elements, as plain numbers
+turn-more : (step n : ℕ) → step < n / 128 → step * 128 + 128 ≤ n
+turn-more step n more = omega arith
+
+pub loop-step-init : goal.loop-step-init
+loop-step-init g c = record {
   writes = CopiesSome-none (not (nat_eq g.row.LATER 0)) _ _ _ _ _ _ _ c.requires.span.window;
   cost = Costs-none g.C.CellsRead _;
 }
 
-pub loop-passed-preserved : goal.loop-passed-preserved
-loop-passed-preserved g c =
-    let later : Bool = not (nat_eq g.row.LATER 0) in
-    let inv = c.loop-passed.invariant in
-    let span = c.requires.span in
-    let more = c.loop-passed-test.true in
-    let some = width_some _ g.met.C.Elem.BitStore.width_law in
-    let kept = CopiesSome-kept later _ _ _ _ _ _ _ _ _ (nth_place later c.loop-passed.passed c.args.moved.count) c.requires.towards span.window more (le_refl _) (nth-waiting later c.loop-passed.passed c.args.moved.count) inv.writes in
-    let place : element_bits g.C.Elem.BitStore.BITS g.O.BitOrder.at (slice_index (g.C.CellsRead.numbers c.loop-passed.cells) (c.args.moved.source + c.next_place-place.result)) ≡ list_in g.C.Elem.BitStore.BITS g.O.BitOrder.at (g.C.CellsRead.numbers c.args.cells.now) (record { start = (c.args.moved.source + nth_place later c.loop-passed.passed c.args.moved.count) * g.C.Elem.BitStore.BITS + 0; len = g.C.Elem.BitStore.BITS }) =
-    rw c.next_place-place.ensures (kept ∙ list-whole_next later _ _ _ _ _ _ some span.beside more) in
+pub move_each-requires-clause-span : goal.move_each-requires-clause-span
+move_each-requires-clause-span g c =
+    rw c.turn_place-here.ensures.place
+    (turn-span (not (nat_eq g.row.LATER 0)) _ _ _ c.args.moved.first c.args.moved.source c.args.moved.count (c.loop-step.step * 128) 128 c.requires.span c.loop-step.invariant.writes.elements (turn-more _ _ c.loop-step-test.true))
+
+pub move_each-requires-clause-towards : goal.move_each-requires-clause-towards
+move_each-requires-clause-towards g c = turn-toward (not (nat_eq g.row.LATER 0)) c.args.moved.first c.args.moved.source c.turn_place-here.result c.requires.towards
+
+pub loop-step-preserved : goal.loop-step-preserved
+loop-step-preserved g c =
+    let inv = c.loop-step.invariant in
+    let next : (c.loop-step.step + 1) * 128 ≡ c.loop-step.step * 128 + 128 = omega arith in
     record {
-      writes = rw (c.store.ensures.numbers, c.load-element.ensures.numbers, c.next_place-place.ensures)
-          (CopiesSome-more later _ _ _ _ _ _ _ _ _ _ some span more (ap (element_bits g.C.Elem.BitStore.BITS g.O.BitOrder.at) c.load-element.ensures.value ∙ place) inv.writes);
-      cost = Costs-next g.C.CellsRead _ _ _ _ _ _ inv.cost c.load-element.ensures.borrow c.load-element.ensures.loads c.load-element.ensures.stores c.store.ensures.borrow c.store.ensures.loads c.store.ensures.stores;
+      writes = rw next (CopiesSome-turn (not (nat_eq g.row.LATER 0)) _ _ _ _ _ c.args.moved.first c.args.moved.source c.args.moved.count (c.loop-step.step * 128) 128 c.requires.span c.requires.towards (turn-more _ _ c.loop-step-test.true) inv.writes
+          (rw c.turn_place-here.ensures.place at c.move_each.ensures.writes));
+      cost = Costs-sum g.C.CellsRead _ _ _ _ _ _ _ _ _ inv.cost c.move_each.ensures.cost next next;
     }
+
+pub move_each-requires-2-clause-span : goal.move_each-requires-2-clause-span
+move_each-requires-2-clause-span g c =
+    let n = c.args.moved.count in
+    let k : ℕ = n / 128 * 128 in
+    rw c.turn_place-behind.ensures.place
+    (turn-span (not (nat_eq g.row.LATER 0)) _ _ _ c.args.moved.first c.args.moved.source n k (n - k) c.requires.span c.loop-step.invariant.writes.elements (omega arith))
+
+pub move_each-requires-2-clause-towards : goal.move_each-requires-2-clause-towards
+move_each-requires-2-clause-towards g c = turn-toward (not (nat_eq g.row.LATER 0)) c.args.moved.first c.args.moved.source c.turn_place-behind.result c.requires.towards
+
+pub returns-clause-writes : goal.returns-clause-writes
+returns-clause-writes g c =
+    let later : Bool = not (nat_eq g.row.LATER 0) in
+    let n = c.args.moved.count in
+    let k : ℕ = n / 128 * 128 in
+    let all : c.loop-step.step ≡ n / 128 = omega arith in
+    CopiesSome-whole later _ _ _ _ c.args.moved.first c.args.moved.source n (k + (n - k)) (omega arith)
+    (CopiesSome-turn later _ _ _ _ _ c.args.moved.first c.args.moved.source n k (n - k) c.requires.span c.requires.towards (omega arith) (rw all at c.loop-step.invariant.writes)
+    (rw c.turn_place-behind.ensures.place at c.move_each-2.ensures.writes))
