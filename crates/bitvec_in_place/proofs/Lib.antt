@@ -1,5 +1,4 @@
 pub mod Cursors
-pub mod Ends
 pub mod Refilled
 pub mod Rows
 pub mod Windows

@@ -8,7 +8,6 @@ use Rattle.bitvec_base.specs.LengthLaws as lasting
 use Rattle.bitvec_within.specs.Combined.{combined_within}
 use Rattle.bitvec_within.specs.CombinedLaws.{length-combined_within}
 use Rattle.bitvec_base.specs.Lists.{combined, copied_within}
-use Rattle.bitvec_base.specs.CountLaws.{ones_and_zeros}
 use Rattle.bitvec_base.specs.Memory.{HasWindow, Writes, memory_bits}
 use Rattle.bitvec_base.specs.SliceLaws.{range-all}
 use Rattle.bitvec_base.specs.Window.{max_bits, window_of, write_at}
@@ -18,7 +17,6 @@ use Rattle.bitvec_segments.specs.Segments.{loaded, stored}
 use Rattle.bitvec_within.specs.Swaps.{swapped_within}
 use Rattle.bitvec_within.specs.SwapsLaws.{length-swapped}
 use Rattle.bitvec_in_place.specs.MovedLaws.{get-put_outside, length-bits_of, length-put}
-use Rattle.bitvec_in_place.specs.RangeBitsLaws.{length-bits_in}
 use Rattle.bitvec_in_place.specs.Ranges.{ChangesOnly, HasBits, bits_in, edited, flipped, joined, number_in, numbered}
 use Rattle.bitvec_in_place.specs.RangesLaws.{filled-write}
 
@@ -124,7 +122,5 @@ module _ {T : Type 0} (b : ℕ) (at : ℕ → ℕ → ℕ) (value : T → ℕ) (
 pub ruleset ranges = (arith, filled-write, flipped-is, edited-is, joined-is, number-is, numbered-is)
 
 pub ruleset wholes = (arith, length-bits_of, whole-set, whole-swap, whole-copy, whole-exchange, whole-combine)
-
-pub ruleset counts = (arith, ones_and_zeros, length-bits_in, length-bits_of)
 
 pub ruleset spans = (arith, bits-is, window_all, length-bits_of)

@@ -6,8 +6,8 @@ ghost use Rattle.bitvec_numbers.specs.Integers.{integer_of, remainder_of};
 ghost use Rattle.bitvec_base.specs.Memory.{memory_bits};
 ghost use Rattle.bitvec_in_place.specs.Ranges.{HasBits, number_in, numbered};
 
-use crate::spans::span_in;
-use bitvec_field::{Integral, load_be_in, load_le_in, store_be_in, store_le_in};
+use crate::spans::{part_in, span_in};
+use bitvec_field::{BitField, Integral, store_be_in, store_le_in};
 use bitvec_numbers::FieldOrder;
 use bitvec_store::BitStore;
 use std::ops::Range;
@@ -21,7 +21,7 @@ pub fn load_le<T: BitStore, O: FieldOrder, I: Integral>(elements: &[T], range: R
     ensures { I.value result ≡ integer_of I.SIGNED (range.end - range.start)
         (number_in false O.HIGH T.BITS (memory_bits T.BITS O.at (map T.value elements.now)) range.start range.end) }
 {
-    load_le_in::<T, O, I>(elements, span_in::<T, O>(elements, range))
+    part_in::<T, O>(elements, range).load_le::<I>()
 }
 
 /// The integer of a range's bits, the first segment highest. Condition: as for [`load_le`].
@@ -32,7 +32,7 @@ pub fn load_be<T: BitStore, O: FieldOrder, I: Integral>(elements: &[T], range: R
     ensures { I.value result ≡ integer_of I.SIGNED (range.end - range.start)
         (number_in true O.HIGH T.BITS (memory_bits T.BITS O.at (map T.value elements.now)) range.start range.end) }
 {
-    load_be_in::<T, O, I>(elements, span_in::<T, O>(elements, range))
+    part_in::<T, O>(elements, range).load_be::<I>()
 }
 
 /// Stores an integer in a range, the first segment lowest. If it has more bits than the range, its lowest are
@@ -74,26 +74,8 @@ pub fn store_be<T: BitStore, O: FieldOrder, I: Integral>(
     store_be_in::<T, O, I>(elements, window, value);
 }
 
-/// The integer of a range's bits, the first of them lowest under an order that begins with the lowest bit, else highest.
-/// Condition: as for [`load_le`].
-pub(crate) fn load_plain<T: BitStore, O: FieldOrder, I: Integral>(
-    elements: &[T],
-    range: Range<usize>,
-) -> I
-    requires range { HasBits T.BITS (length elements.now) range.start range.end }
-    requires some { range.start < range.end }
-    requires bound { range.end ≤ range.start + I.BITS }
-    ensures { I.value result ≡ integer_of I.SIGNED (range.end - range.start)
-        (number_in O.HIGH O.HIGH T.BITS (memory_bits T.BITS O.at (map T.value elements.now)) range.start range.end) }
-{
-    if O::HIGH {
-        load_be::<T, O, I>(elements, range)
-    } else {
-        load_le::<T, O, I>(elements, range)
-    }
-}
-
-/// Stores an integer in a range, the first bit as [`load_plain`] takes it. Condition: as for [`store_le`].
+/// Stores an integer in a range, its lowest bit first under an order that begins with the lowest bit, else its highest.
+/// Condition: as for [`store_le`].
 pub(crate) fn store_plain<T: BitStore, O: FieldOrder, I: Integral>(
     elements: &mut [T],
     range: Range<usize>,

@@ -1,14 +1,12 @@
 //! Questions about a range of bits: how many are 1, and where the first or the last 1 or 0 is.
-#![tactic(auto, using(crate::proofs::Windows::ranges))]
-
 ghost use Rattle.std.specs.Prelude.{◌≡◌, count_by, false, length, map, not, true};
 ghost use Rattle.bitvec_base.specs.Lists.{first_place, last_place};
 ghost use Rattle.bitvec_base.specs.Memory.{memory_bits};
 ghost use Rattle.bitvec_in_place.specs.Ranges.{HasBits, bits_in};
 
-use crate::spans::span_in;
-use bitvec_elements::{count_in, find_first_in, find_last_in};
+use crate::spans::part_in;
 use bitvec_engine::SliceOrder;
+use bitvec_query::BitQueries;
 use bitvec_store::BitStore;
 use std::ops::Range;
 
@@ -17,17 +15,15 @@ pub fn count_ones<T: BitStore, O: SliceOrder>(elements: &[T], range: Range<usize
     requires range { HasBits T.BITS (length elements.now) range.start range.end }
     ensures { result ≡ count_by (λ bit. bit) (bits_in (memory_bits T.BITS O.at (map T.value elements.now)) range.start range.end) }
 {
-    count_in::<T, O>(elements, span_in::<T, O>(elements, range))
+    part_in::<T, O>(elements, range).count_ones()
 }
 
 /// How many bits of a range are 0. Condition: as for [`count_ones`].
-#[tactic(auto, using(crate::proofs::Windows::counts))]
 pub fn count_zeros<T: BitStore, O: SliceOrder>(elements: &[T], range: Range<usize>) -> usize
     requires range { HasBits T.BITS (length elements.now) range.start range.end }
     ensures { result ≡ count_by not (bits_in (memory_bits T.BITS O.at (map T.value elements.now)) range.start range.end) }
 {
-    let len = range.end - range.start;
-    len - count_ones::<T, O>(elements, range)
+    part_in::<T, O>(elements, range).count_zeros()
 }
 
 /// The index in a range of its first 1, if it has one. Condition: as for [`count_ones`].
@@ -35,7 +31,7 @@ pub fn first_one<T: BitStore, O: SliceOrder>(elements: &[T], range: Range<usize>
     requires range { HasBits T.BITS (length elements.now) range.start range.end }
     ensures { result ≡ first_place true (bits_in (memory_bits T.BITS O.at (map T.value elements.now)) range.start range.end) }
 {
-    find_first_in::<T, O>(elements, span_in::<T, O>(elements, range), true)
+    part_in::<T, O>(elements, range).first_one()
 }
 
 /// The index in a range of its last 1, if it has one. Condition: as for [`count_ones`].
@@ -43,7 +39,7 @@ pub fn last_one<T: BitStore, O: SliceOrder>(elements: &[T], range: Range<usize>)
     requires range { HasBits T.BITS (length elements.now) range.start range.end }
     ensures { result ≡ last_place true (bits_in (memory_bits T.BITS O.at (map T.value elements.now)) range.start range.end) }
 {
-    find_last_in::<T, O>(elements, span_in::<T, O>(elements, range), true)
+    part_in::<T, O>(elements, range).last_one()
 }
 
 /// The index in a range of its first 0, if it has one. Condition: as for [`count_ones`].
@@ -51,7 +47,7 @@ pub fn first_zero<T: BitStore, O: SliceOrder>(elements: &[T], range: Range<usize
     requires range { HasBits T.BITS (length elements.now) range.start range.end }
     ensures { result ≡ first_place false (bits_in (memory_bits T.BITS O.at (map T.value elements.now)) range.start range.end) }
 {
-    find_first_in::<T, O>(elements, span_in::<T, O>(elements, range), false)
+    part_in::<T, O>(elements, range).first_zero()
 }
 
 /// The index in a range of its last 0, if it has one. Condition: as for [`count_ones`].
@@ -59,5 +55,5 @@ pub fn last_zero<T: BitStore, O: SliceOrder>(elements: &[T], range: Range<usize>
     requires range { HasBits T.BITS (length elements.now) range.start range.end }
     ensures { result ≡ last_place false (bits_in (memory_bits T.BITS O.at (map T.value elements.now)) range.start range.end) }
 {
-    find_last_in::<T, O>(elements, span_in::<T, O>(elements, range), false)
+    part_in::<T, O>(elements, range).last_zero()
 }
