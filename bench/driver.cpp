@@ -487,7 +487,7 @@ void print_for_plot(const Row &row, const std::string &kind) {
 }
 
 void print_plot() {
-    rounds.count = 3;
+    rounds.count = 2;
     for (size_t len : plot_sizes)
         for (Phase phase : {Phase::edges, Phase::shifted}) {
             auto report = [&](const Row &row) { print_for_plot(row, phase == Phase::edges ? "" : ", shifted"); };

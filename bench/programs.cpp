@@ -12,6 +12,7 @@
 #include <limits>
 #include <spawn.h>
 #include <string>
+#include <sys/resource.h>
 #include <sys/wait.h>
 #include <unistd.h>
 #include <vector>
@@ -31,7 +32,9 @@ struct Task {
     std::vector<std::string> others = {};
 };
 
-// Runs the program so many times through, and gives the seconds that it took and what it printed.
+static double seconds_of(const timeval &time) { return double(time.tv_sec) + 1e-6 * double(time.tv_usec); }
+
+// Runs the program so many times through, and gives the seconds of the processor that it took and what it printed.
 static std::pair<double, std::string> run(const char *program, const Task &task, size_t times) {
     std::vector<std::string> words = {program, task.operation};
     for (const size_t number : task.numbers)
@@ -48,7 +51,6 @@ static std::pair<double, std::string> run(const char *program, const Task &task,
     posix_spawn_file_actions_t actions;
     posix_spawn_file_actions_init(&actions);
     posix_spawn_file_actions_adddup2(&actions, ends[1], 1);
-    const auto begin = Clock::now();
     pid_t child;
     if (posix_spawn(&child, program, &actions, nullptr, arguments.data(), environ))
         std::abort();
@@ -58,13 +60,13 @@ static std::pair<double, std::string> run(const char *program, const Task &task,
     for (ssize_t n; (n = read(ends[0], part, sizeof part)) > 0;)
         said.append(part, n);
     int status;
-    waitpid(child, &status, 0);
-    const double taken = seconds_since(begin);
+    rusage used;
+    wait4(child, &status, 0, &used);
     close(ends[0]);
     posix_spawn_file_actions_destroy(&actions);
     if (status)
         std::abort();
-    return {taken, said};
+    return {seconds_of(used.ru_utime) + seconds_of(used.ru_stime), said};
 }
 
 // How many turns each takes.
