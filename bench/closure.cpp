@@ -1,6 +1,7 @@
 // Times the program `bitmatrix`, which is given as the first argument, as it closes the chain of 1024 places, beside the same
 // loop over rows of uint64_t, and prints a table in Markdown: runs of the program, less runs for a chain of one place.
 #include "said.hpp"
+#include "timing.hpp"
 #include <algorithm>
 #include <chrono>
 #include <cstdint>
@@ -54,7 +55,8 @@ static void time(double &least, const char *ones, Call call) {
 
 int main(int, char **arguments) {
     double program = std::numeric_limits<double>::infinity(), start = program, loop = program;
-    for (int round = 0; round < 101; ++round) {
+    for (int round = 0; round < 11; ++round) {
+        turns.next();
         time(program, "523776\n", [&] { return by_program(arguments[1], places); });
         time(start, "0\n", [&] { return by_program(arguments[1], 1); });
         time(loop, "523776\n", by_loop);

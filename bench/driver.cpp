@@ -1,5 +1,5 @@
-// Tests the library against loops over single bits, then times it beside its peers, and prints tables; with the word
-// `plot` it prints the speeds that plot.py draws.
+// `driver check` tests the library against loops over single bits, `driver tables` times it beside its peers and prints
+// tables, and `driver plot` prints the times that plot.py draws.
 #include "checks.hpp"
 #include "fields.hpp"
 #include "library.hpp"
@@ -8,7 +8,6 @@
 #include "timing.hpp"
 #include <cstdio>
 #include <cstring>
-#include <map>
 #include <string>
 #include <vector>
 
@@ -76,18 +75,18 @@ std::string rate(size_t len, double nanoseconds) { return nanoseconds == 0 ? "" 
 
 void print_head(size_t len) {
     std::printf("\n### %zu bits\n\n", len);
-    std::printf("| operation | elements | phase | library | peer | which | loop | libc | library / peer | library / "
-                "loop | library / libc |\n");
+    std::printf("| operation | elements | phase | library / peer | library / loop | library | peer | which | loop | libc | "
+                "library / libc |\n");
     std::printf("|---|---|---|---|---|---|---|---|---|---|---|\n");
 }
 
 void print(const Row &row) {
     const Times &t = row.times;
     std::printf("| %s | %s | %s | %s | %s | %s | %s | %s | %s | %s | %s |\n", row.operation.c_str(),
-                row.element.c_str(), row.phase.c_str(), rate(row.len, t.library).c_str(),
+                row.element.c_str(), row.phase.c_str(), ratio(row.best.nanoseconds, t.library).c_str(),
+                ratio(t.loop, t.library).c_str(), rate(row.len, t.library).c_str(),
                 rate(row.len, row.best.nanoseconds).c_str(), row.best.name.c_str(), rate(row.len, t.loop).c_str(),
-                rate(row.len, t.libc).c_str(), ratio(row.best.nanoseconds, t.library).c_str(),
-                ratio(t.loop, t.library).c_str(), ratio(t.libc, t.library).c_str());
+                rate(row.len, t.libc).c_str(), ratio(t.libc, t.library).c_str());
     std::fflush(stdout);
 }
 
@@ -101,9 +100,12 @@ class Timed {
     static constexpr size_t width = 8 * sizeof(Element);
 
   public:
+    // Where the sides begin, and by how many bits they are moved and turned.
+    const size_t start, first, by, turn;
+
     Timed(size_t len, size_t start, bool inner)
-        : len(len), start(start), first(inner ? start : 0), inner(inner), count(len / width), size(count + 1),
-          left(size), right(size), room(2 * count) {
+        : start(start), first(inner ? start : 0), by(start == 0 ? width : start), turn(len / 2 + start), len(len),
+          inner(inner), count(len / width), size(count + 1), left(size), right(size), room(2 * count) {
         std::mt19937_64 random(3);
         for (Element &element : left)
             element = Element(random());
@@ -177,7 +179,7 @@ class Timed {
         return t;
     }
 
-    Times copy_within(size_t by) {
+    Times copy_within() {
         Times t;
         t.library = time_call([&] { Call::copy_within(l(), size, 0, len, by); });
         t.loop = time_call([&] { Loop::copy_within(l(), count, by); });
@@ -186,7 +188,7 @@ class Timed {
         return t;
     }
 
-    Times shift_start(size_t by) {
+    Times shift_start() {
         Times t;
         t.library = time_call([&] { Call::shift_start(l(), size, 0, len, by); });
         t.loop = time_call([&] { Loop::shift_start(l(), count, by); });
@@ -205,10 +207,10 @@ class Timed {
         return t;
     }
 
-    Times rotate_left(size_t by) {
+    Times rotate_left() {
         Times t;
-        t.library = time_call([&] { Call::rotate_left(l(), size, 0, len, by); });
-        t.loop = time_call([&] { Loop::rotate_left(l(), count, by, room.data()); });
+        t.library = time_call([&] { Call::rotate_left(l(), size, 0, len, turn); });
+        t.loop = time_call([&] { Loop::rotate_left(l(), count, turn, room.data()); });
         return t;
     }
 
@@ -259,7 +261,7 @@ class Timed {
     }
 
   private:
-    size_t len, start, first;
+    size_t len;
     bool inner;
     size_t count, size;
     std::vector<Element> left, right, room;
@@ -268,66 +270,58 @@ class Timed {
     Element *r() { return right.data(); }
 };
 
-// The best peers, each measured once: they choose their own elements.
-class PeerTimes {
-  public:
-    template <class Measure>
-    const Best &of(const std::string &key, Measure measure) {
-        auto found = known.find(key);
-        if (found == known.end())
-            found = known.emplace(key, measure()).first;
-        return found->second;
-    }
-
-  private:
-    std::map<std::string, Best> known;
-};
-
 // Where the sides of an operation begin: at the edge of an element, one at an edge and one inside, or
 // both inside at the same bit.
 enum class Phase { edges, shifted, inner };
 
-// Every operation on so many bits, or only copies, operators, exchanges and equality of two windows.
+// The elements and the order of one row.
+template <class E, class O>
+struct Kind {
+    using Element = E;
+    using Order = O;
+};
 
-template <class Element, class Order, class Report>
-void measure(size_t len, Phase phase, bool pairs_alone, PeerTimes &peers, Report report) {
-    const size_t width = 8 * sizeof(Element);
+// Every operation on so many bits, or only copies, operators, exchanges and equality of two windows: each by the peers, which have
+// elements of their own, and then by every kind.
+template <class... Kinds, class Report>
+void measure(size_t len, Phase phase, bool pairs_alone, Report report) {
     const bool at_edge = phase == Phase::edges, inner = phase == Phase::inner;
-    const size_t start = at_edge ? 0 : middle<Element>, peer_start = at_edge ? 0 : 29;
-    const size_t by = at_edge ? width : middle<Element>, peer_by = at_edge ? 64 : 29;
-    const size_t turn = len / 2 + start, peer_turn = len / 2 + peer_start;
-    const std::string elements = std::string("u") + std::to_string(width) + " " + Order::name;
-    const std::string one = std::to_string(start), two = (inner ? one : "0") + ", " + one;
-    const std::string kind = at_edge ? "" : inner ? " inner" : " shifted";
-    Timed<Element, Order> timed(len, start, inner);
-    auto row = [&](const char *operation, const std::string &place, Times times, auto best) {
-        report({operation, elements, place, len, times, peers.of(operation + kind, [&] {
-                    Peers sets(len, peer_start, inner);
-                    return best(sets);
-                })});
+    const size_t peer_start = at_edge ? 0 : 29, peer_by = at_edge ? 64 : 29, peer_turn = len / 2 + peer_start;
+    auto row = [&](const char *operation, auto place, auto act, auto best) {
+        Peers sets(len, peer_start, inner);
+        const Best peer = best(sets);
+        auto kind = [&](auto of) {
+            using Element = typename decltype(of)::Element;
+            using Order = typename decltype(of)::Order;
+            Timed<Element, Order> timed(len, at_edge ? 0 : middle<Element>, inner);
+            const std::string elements = "u" + std::to_string(8 * sizeof(Element)) + " " + Order::name;
+            report({operation, elements, place(timed), len, act(timed), peer});
+        };
+        (kind(Kinds()), ...);
     };
-    row("copy", two, timed.copy(), [](Peers &p) { return p.copy(); });
-    row("or", two, timed.combine(), [](Peers &p) { return p.combine(); });
-    row("swap", two, timed.swap(), [](Peers &p) { return p.swap(); });
-    row("equality", two, timed.equal(), [](Peers &p) { return p.equal(); });
+    auto two = [](auto &t) { return std::to_string(t.first) + ", " + std::to_string(t.start); };
+    auto one = [](auto &t) { return std::to_string(t.start); };
+    auto by = [](auto &t) { return "by " + std::to_string(t.by); };
+    auto turn = [](auto &t) { return "by " + std::to_string(t.turn); };
+    row("copy", two, [](auto &t) { return t.copy(); }, [](Peers &p) { return p.copy(); });
+    row("or", two, [](auto &t) { return t.combine(); }, [](Peers &p) { return p.combine(); });
+    row("swap", two, [](auto &t) { return t.swap(); }, [](Peers &p) { return p.swap(); });
+    row("equality", two, [](auto &t) { return t.equal(); }, [](Peers &p) { return p.equal(); });
     if (pairs_alone)
         return;
-    row("compare", two, timed.compare(), [](Peers &p) { return p.compare(); });
-    row("starts_with", two, timed.starts_with(), [](Peers &p) { return p.starts_with(); });
-    row("contains", one, timed.contains(), [](Peers &p) { return p.contains(); });
-    row("copy_within", "by " + std::to_string(by), timed.copy_within(by),
-        [&](Peers &p) { return p.copy_within(peer_by); });
-    row("shift_start", "by " + std::to_string(by), timed.shift_start(by),
-        [&](Peers &p) { return p.shift_start(peer_by); });
-    row("rotate_left", "by " + std::to_string(turn), timed.rotate_left(turn),
-        [&](Peers &p) { return p.rotate_left(peer_turn); });
-    row("reverse", one, timed.reverse(), [](Peers &p) { return p.reverse(); });
-    row("fill", one, timed.fill(), [](Peers &p) { return p.fill(); });
-    row("invert", one, timed.invert(), [](Peers &p) { return p.invert(); });
-    row("count_ones", one, timed.count_ones(), [](Peers &p) { return p.count_ones(); });
-    row("first_one", one, timed.first_one(), [](Peers &p) { return p.first_one(); });
-    row("ones 1/61", one, timed.iter_ones(61), [](Peers &p) { return p.iter_ones(61); });
-    row("ones 1/2", one, timed.iter_ones(2), [](Peers &p) { return p.iter_ones(2); });
+    row("compare", two, [](auto &t) { return t.compare(); }, [](Peers &p) { return p.compare(); });
+    row("starts_with", two, [](auto &t) { return t.starts_with(); }, [](Peers &p) { return p.starts_with(); });
+    row("contains", one, [](auto &t) { return t.contains(); }, [](Peers &p) { return p.contains(); });
+    row("copy_within", by, [](auto &t) { return t.copy_within(); }, [&](Peers &p) { return p.copy_within(peer_by); });
+    row("shift_start", by, [](auto &t) { return t.shift_start(); }, [&](Peers &p) { return p.shift_start(peer_by); });
+    row("rotate_left", turn, [](auto &t) { return t.rotate_left(); }, [&](Peers &p) { return p.rotate_left(peer_turn); });
+    row("reverse", one, [](auto &t) { return t.reverse(); }, [](Peers &p) { return p.reverse(); });
+    row("fill", one, [](auto &t) { return t.fill(); }, [](Peers &p) { return p.fill(); });
+    row("invert", one, [](auto &t) { return t.invert(); }, [](Peers &p) { return p.invert(); });
+    row("count_ones", one, [](auto &t) { return t.count_ones(); }, [](Peers &p) { return p.count_ones(); });
+    row("first_one", one, [](auto &t) { return t.first_one(); }, [](Peers &p) { return p.first_one(); });
+    row("ones 1/61", one, [](auto &t) { return t.iter_ones(61); }, [](Peers &p) { return p.iter_ones(61); });
+    row("ones 1/2", one, [](auto &t) { return t.iter_ones(2); }, [](Peers &p) { return p.iter_ones(2); });
 }
 
 // Work on few bits, in nanoseconds, with starts that the compiler doesn't know.
@@ -442,16 +436,10 @@ void check_all() {
 
 void print_operations() {
     for (size_t len : sizes) {
-        PeerTimes peers;
         print_head(len);
-        for (Phase phase : {Phase::edges, Phase::shifted, Phase::inner}) {
-            measure<uint64_t, Lsb0>(len, phase, phase == Phase::inner, peers, print);
-            measure<uint64_t, Msb0>(len, phase, phase == Phase::inner, peers, print);
-            measure<uint16_t, Lsb0>(len, phase, phase == Phase::inner, peers, print);
-            measure<uint16_t, Msb0>(len, phase, phase == Phase::inner, peers, print);
-            measure<uint8_t, Lsb0>(len, phase, phase == Phase::inner, peers, print);
-            measure<uint8_t, Msb0>(len, phase, phase == Phase::inner, peers, print);
-        }
+        for (Phase phase : {Phase::edges, Phase::shifted, Phase::inner})
+            measure<Kind<uint64_t, Lsb0>, Kind<uint64_t, Msb0>, Kind<uint16_t, Lsb0>, Kind<uint16_t, Msb0>, Kind<uint8_t, Lsb0>,
+                    Kind<uint8_t, Msb0>>(len, phase, phase == Phase::inner, print);
     }
 }
 
@@ -499,26 +487,25 @@ void print_for_plot(const Row &row, const std::string &kind) {
 }
 
 void print_plot() {
-    for (size_t len : plot_sizes) {
-        PeerTimes peers;
+    rounds.count = 2;
+    for (size_t len : plot_sizes)
         for (Phase phase : {Phase::edges, Phase::shifted}) {
             auto report = [&](const Row &row) { print_for_plot(row, phase == Phase::edges ? "" : ", shifted"); };
-            measure<uint64_t, Lsb0>(len, phase, phase == Phase::shifted, peers, report);
-            measure<uint16_t, Lsb0>(len, phase, phase == Phase::shifted, peers, report);
-            measure<uint8_t, Lsb0>(len, phase, phase == Phase::shifted, peers, report);
+            measure<Kind<uint64_t, Lsb0>, Kind<uint16_t, Lsb0>, Kind<uint8_t, Lsb0>>(len, phase, phase == Phase::shifted, report);
         }
-    }
 }
 
 } // namespace
 
-int main(int count, char **words) {
-    if (count > 1 && std::strcmp(words[1], "plot") == 0) {
+int main(int, char **words) {
+    const std::string what = words[1];
+    if (what == "check") {
+        check_all();
+    } else if (what == "plot") {
         print_plot();
-        return 0;
+    } else {
+        print_operations();
+        print_few();
+        print_fields();
     }
-    check_all();
-    print_operations();
-    print_few();
-    print_fields();
 }

@@ -1,5 +1,6 @@
 #!/usr/bin/env python3
-"""in_short.py: writes the table "In short" of README.md by RESULTS.md, and prints how many rows are as fast as a peer, and which are not."""
+"""in_short.py: writes the table "In short" of README.md by RESULTS.md, and prints how many rows are as fast as a peer, and how many
+about as fast in every layout, and which are not."""
 import pathlib
 import re
 
@@ -10,8 +11,8 @@ NAMES = {
 }
 ELEMENTS = ["u64 Lsb0", "u64 Msb0", "u8 Lsb0", "u8 Msb0"]
 SHIFTED = {"u64": 29, "u8": 3}
-# What a row needs of the speed of its fastest peer.
-WANTED = 0.7
+# What a row needs of the speed of its fastest peer, and the slowest layout of that of the fastest one.
+WANTED, STEADY = 0.7, 0.8
 
 
 def cells_of(text, head):
@@ -21,9 +22,10 @@ def cells_of(text, head):
     return [[cell.strip() for cell in re.split(r"(?<!\\)\|", it)[1:-1]] for it in lines]
 
 
-def through_c(text):
-    """Rows of 2^20 bits: the operation, the elements, the phase, and the speed beside the fastest peer and a loop."""
-    return [(*row[:3], row[8], row[9]) for row in cells_of(text, "1048576 bits")]
+def through_c(text, bits):
+    """Rows of so many bits: the operation, the elements, the phase, the speed beside the fastest peer and a loop, and the slowest layout
+    beside the fastest one."""
+    return [(*row[:5], f"{float(row[6]) / float(row[7]):.3g}") for row in cells_of(text, f"{bits} bits")]
 
 
 def of_views(text):
@@ -46,21 +48,28 @@ def table(rows):
     heads = ELEMENTS + [f"{it}, shifted" for it in ELEMENTS]
     lines = ["| operation | " + " | ".join(heads) + " |", "|" + "---|" * (len(heads) + 1)]
     for operation, name in NAMES.items():
-        found = {(elements, is_shifted(elements, phase)): loop for it, elements, phase, _, loop in rows if it == operation}
+        found = {(elements, is_shifted(elements, phase)): loop for it, elements, phase, _, loop, _ in rows if it == operation}
         cells = [found[elements, shifted] for shifted in (False, True) for elements in ELEMENTS]
         lines.append(f"| {name} | " + " | ".join(cells) + " |")
     return "\n".join(lines)
 
 
+def print_slow(bits, rows, wanted, beside):
+    """Prints how many of the rows have what is wanted of a speed, and which have less."""
+    slow = [it for it in rows if float(it[3]) < wanted]
+    print(f"{bits} bits: {len(rows) - len(slow)} of {len(rows)} rows have at least {wanted} of the speed of the fastest {beside}, but for")
+    for row in slow:
+        print("  " + ", ".join(row))
+
+
 def main():
     text, readme = (HERE / "RESULTS.md").read_text(), HERE / "README.md"
-    old = readme.read_text()
-    readme.write_text(re.sub(r"^\| operation \| u64 Lsb0.*?(?=\n\n)", lambda _: table(through_c(text)), old, count=1, flags=re.M | re.S))
-    for bits, rows in (("2^20", [it[:4] for it in through_c(text) if it[3]]), ("2^10", of_views(text))):
-        slow = [it for it in rows if float(it[3]) < WANTED]
-        print(f"{bits} bits: {len(rows) - len(slow)} of {len(rows)} rows have at least {WANTED} of the speed of the fastest peer, but for")
-        for row in slow:
-            print("  " + ", ".join(row))
+    large, small = through_c(text, 1 << 20), through_c(text, 1 << 10)
+    readme.write_text(re.sub(r"^\| operation \| u64 Lsb0.*?(?=\n\n)", lambda _: table(large), readme.read_text(), count=1, flags=re.M | re.S))
+    print_slow("2^20", [it[:4] for it in large if it[3]], WANTED, "peer")
+    print_slow("2^10", of_views(text), WANTED, "peer")
+    print_slow("2^20", [(*it[:3], it[5]) for it in large], STEADY, "layout in the slowest one")
+    print_slow("2^10", [(*it[:3], it[5]) for it in small], STEADY, "layout in the slowest one")
 
 
 if __name__ == "__main__":

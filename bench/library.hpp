@@ -20,7 +20,7 @@ struct Msb0 {
 // Each on the `len` bits from bit `start` on of `size` elements, of two memories on as many bits of each.
 template <class Element, class Order>
 struct Library {
-    using Call = fehimbary::Functions<Element>;
+    using Call = fehimbary::Functions<sizeof(Element)>;
     static constexpr fb_order order = Order::order;
 
     static void copy(Element *to, size_t to_size, size_t to_start, const Element *from, size_t from_size,
@@ -131,7 +131,7 @@ struct Library {
 // Fields of 12 bits that follow one another, so many from a bit on; each by a call.
 template <class Element, class Order>
 struct Fields {
-    using Call = fehimbary::Functions<Element>;
+    using Call = fehimbary::Functions<sizeof(Element)>;
     static constexpr auto load_one = std::is_same_v<Order, Lsb0> ? Call::load_le : Call::load_be;
     static constexpr auto store_one = std::is_same_v<Order, Lsb0> ? Call::store_le : Call::store_be;
     static constexpr size_t field = 12;

@@ -1,8 +1,10 @@
-"""Draws the speeds that the driver prints for a plot: `out/driver plot | plot.py > speeds.svg`.
+"""Draws the speeds that the driver prints for a plot, of all layouts: `plot.py < TIMES > speeds.svg`.
 
-A line of the input is an operation, a name, a number of bits and the nanoseconds of a call, with tabs between. Each operation
+A line of the input is an operation, a name, a number of bits and the nanoseconds of a call, with tabs between; of times of
+one call the median counts. Each operation
 has a panel, each name a line, both axes are logarithmic: the bits of a call from left to right, the bits per ns upwards."""
 import math
+import statistics
 import sys
 
 COLUMNS, WIDTH, HEIGHT, MARGIN, HEAD = 4, 230, 170, 50, 40
@@ -59,7 +61,7 @@ class Panel:
             yield text(self.x(bits), self.top + HEIGHT + 13, f"2^{bits.bit_length() - 1}", 'text-anchor="middle"')
 
     def curve(self, name, times):
-        points = " ".join(f"{self.x(bits):.1f},{self.y(bits / times[bits]):.1f}" for bits in sorted(times))
+        points = " ".join(f"{self.x(bits):.1f},{self.y(bits / statistics.median(times[bits])):.1f}" for bits in sorted(times))
         return f'<polyline points="{points}" fill="none" {STYLES[name]}><title>{escaped(name)}</title></polyline>'
 
 
@@ -85,7 +87,7 @@ def main():
     operations = {}
     for row in sys.stdin:
         operation, name, bits, nanoseconds = row.rstrip("\n").split("\t")
-        operations.setdefault(operation, {}).setdefault(name, {})[int(bits)] = float(nanoseconds)
+        operations.setdefault(operation, {}).setdefault(name, {}).setdefault(int(bits), []).append(float(nanoseconds))
     width = COLUMNS * (WIDTH + MARGIN) + MARGIN
     height = HEAD + math.ceil(len(operations) / COLUMNS) * (HEIGHT + MARGIN) + MARGIN
     print(f'<svg xmlns="http://www.w3.org/2000/svg" width="{width}" height="{height}" font-family="sans-serif" font-size="10">')

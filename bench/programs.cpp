@@ -12,6 +12,7 @@
 #include <limits>
 #include <spawn.h>
 #include <string>
+#include <sys/resource.h>
 #include <sys/wait.h>
 #include <unistd.h>
 #include <vector>
@@ -31,7 +32,9 @@ struct Task {
     std::vector<std::string> others = {};
 };
 
-// Runs the program so many times through, and gives the seconds that it took and what it printed.
+static double seconds_of(const timeval &time) { return double(time.tv_sec) + 1e-6 * double(time.tv_usec); }
+
+// Runs the program so many times through, and gives the seconds of the processor that it took and what it printed.
 static std::pair<double, std::string> run(const char *program, const Task &task, size_t times) {
     std::vector<std::string> words = {program, task.operation};
     for (const size_t number : task.numbers)
@@ -48,7 +51,6 @@ static std::pair<double, std::string> run(const char *program, const Task &task,
     posix_spawn_file_actions_t actions;
     posix_spawn_file_actions_init(&actions);
     posix_spawn_file_actions_adddup2(&actions, ends[1], 1);
-    const auto begin = Clock::now();
     pid_t child;
     if (posix_spawn(&child, program, &actions, nullptr, arguments.data(), environ))
         std::abort();
@@ -58,21 +60,25 @@ static std::pair<double, std::string> run(const char *program, const Task &task,
     for (ssize_t n; (n = read(ends[0], part, sizeof part)) > 0;)
         said.append(part, n);
     int status;
-    waitpid(child, &status, 0);
-    const double taken = seconds_since(begin);
+    rusage used;
+    wait4(child, &status, 0, &used);
     close(ends[0]);
     posix_spawn_file_actions_destroy(&actions);
     if (status)
         std::abort();
-    return {taken, said};
+    return {seconds_of(used.ru_utime) + seconds_of(used.ru_stime), said};
 }
 
-// The times of one call of each task in nanoseconds: of runs of `times` calls and of none, the best of so many each. The tasks
-// take turns, and then the peers.
-static std::vector<double> time_by_turns(const char *program, const std::vector<Task> &tasks, size_t times, int turns = 7,
+// How many turns each takes.
+constexpr int turn_count = 3;
+
+// The times of one call of each task in nanoseconds: of runs of `times` calls and of none, the best of all turns. In a turn the
+// tasks follow one another, and then the peers.
+static std::vector<double> time_by_turns(const char *program, const std::vector<Task> &tasks, size_t times,
                                          std::vector<Rival> *peers = nullptr) {
     std::vector<double> none(tasks.size(), std::numeric_limits<double>::infinity()), all = none;
-    for (int turn = 0; turn < turns; ++turn) {
+    for (int turn = 0; turn < turn_count; ++turn) {
+        turns.next();
         for (size_t i = 0; i < tasks.size(); ++i) {
             none[i] = std::min(none[i], run(program, tasks[i], 0).first);
             all[i] = std::min(all[i], run(program, tasks[i], times).first);
@@ -90,11 +96,12 @@ static double time_runs(const char *program, const Task &task, size_t times) {
     return time_by_turns(program, {task}, times)[0];
 }
 
-// The best of 7 rounds of as many calls, a call in nanoseconds.
+// The best turn of as many calls, a call in nanoseconds.
 template <class Call>
 static double time_loop(size_t times, Call call) {
     double best = std::numeric_limits<double>::infinity();
-    for (int round = 0; round < 7; ++round) {
+    for (int turn = 0; turn < turn_count; ++turn) {
+        turns.next();
         const auto begin = Clock::now();
         for (size_t i = 0; i < times; ++i)
             call(i);
@@ -115,7 +122,7 @@ static void check(const char *program, const Task &task, size_t times, size_t su
 template <class Call>
 static void compare(const char *program, const char *operation, Call call) {
     const Task task{operation, {8, 0}};
-    constexpr size_t times = 2'000'000;
+    constexpr size_t times = 500'000;
     size_t sum = 0;
     for (size_t i = 0; i < 1000; ++i)
         sum += call(i);
@@ -155,7 +162,7 @@ static void widths(const char *program) {
             double speeds[3];
             const size_t widths[] = {8, 64, 128};
             for (int i = 0; i < 3; ++i)
-                speeds[i] = 1048576 / time_runs(program, {operation, {widths[i], phase}}, 4000);
+                speeds[i] = 1048576 / time_runs(program, {operation, {widths[i], phase}}, 1000);
             std::printf("| %s | %zu | %.3g | %.3g | %.3g | %.3g |\n", operation, phase, speeds[0], speeds[1], speeds[2],
                         speeds[2] / speeds[1]);
         }
@@ -169,7 +176,7 @@ static void walks(const char *program) {
         double speeds[3];
         const size_t widths[] = {8, 64, 128};
         for (int i = 0; i < 3; ++i)
-            speeds[i] = 1048576 / time_runs(program, {"walk", {widths[i], every}}, 400);
+            speeds[i] = 1048576 / time_runs(program, {"walk", {widths[i], every}}, 100);
         std::printf("| 1 in %zu | %.3g | %.3g | %.3g |\n", every, speeds[0], speeds[1], speeds[2]);
     }
 }
@@ -200,7 +207,7 @@ static double time_by_hand(const char *program, const Task &task, size_t rounds,
 // A pass over single bits of views, of a `std::vector<bool>` and by hand, in nanoseconds a bit.
 template <class Element, class Order, class Pass>
 static void single(const char *program, const char *operation, const char *said) {
-    constexpr size_t width = 8 * sizeof(Element), times = 40;
+    constexpr size_t width = 8 * sizeof(Element), times = 10;
     const Task task{operation, {width, Order::number}};
     auto round = [](auto &bits, size_t i) { return bits.round(i); };
     const double by_vector = time_by_hand<Single<Vector, Pass>>(program, task, 3, times, round);
@@ -224,7 +231,7 @@ static void singles(const char *program) {
 // An operation on few bits of views and by hand, in nanoseconds.
 template <class Element, unsigned len, class Round>
 static void few(const char *program, const char *operation, Round round) {
-    constexpr size_t width = 8 * sizeof(Element), times = 4'000'000;
+    constexpr size_t width = 8 * sizeof(Element), times = 1'000'000;
     const Task task{std::string(operation) + "_few", {width, len}};
     const double by_hand = time_by_hand<FewBits<Element, len>>(program, task, 1000, times, round);
     const double by_views = time_runs(program, task, times);
@@ -259,7 +266,7 @@ static void bits(const char *program) {
 // Numbers of 12 bits in chunks of views and by hand, in nanoseconds a number.
 template <class Element, bool whole>
 static void numbers(const char *program, const char *said) {
-    constexpr size_t width = 8 * sizeof(Element), times = 400, count = single_bits / 12;
+    constexpr size_t width = 8 * sizeof(Element), times = 100, count = single_bits / 12;
     const Task task{"numbers", {width, whole ? 0 : 1}};
     auto round = [](auto &bits, size_t i) { return bits.round(i); };
     const double by_hand = time_by_hand<NumbersInARow<Element, whole>>(program, task, 3, times, round);
@@ -293,7 +300,7 @@ static void window(const char *program, const char *operation, size_t left, size
         for (size_t width : {8, 16, 64}) {
             const char *name = order ? "msb0" : "lsb0";
             const double taken =
-                time_runs(program, {operation, {width}, {name, std::to_string(right), std::to_string(left), "1024"}}, 4'000'000);
+                time_runs(program, {operation, {width}, {name, std::to_string(right), std::to_string(left), "1024"}}, 1'000'000);
             std::printf(" %.3g |", window_bits / taken);
             least = std::min(least, best.nanoseconds / taken);
         }
@@ -301,7 +308,7 @@ static void window(const char *program, const char *operation, size_t left, size
 }
 
 static void windows(const char *program) {
-    rounds = {7, 20e6, 1e9};
+    rounds = {turn_count, 5e6};
     std::printf("\n### Windows of 1024 bits of views, in bits per ns\n\n"
                 "| operation | phase | u8 Lsb0 | u16 Lsb0 | u64 Lsb0 | u8 Msb0 | u16 Msb0 | u64 Msb0 | peer | which | "
                 "slowest / peer |\n|---|---|---|---|---|---|---|---|---|---|---|\n");
@@ -343,7 +350,7 @@ static void within(const char *program) {
                     std::vector<Task> tasks;
                     for (const char *operation : {"or_rows", "or_rows_within", "or_rows_overlapping"})
                         tasks.push_back({operation, {width}, {high ? "msb0" : "lsb0", std::to_string(phase), "0", std::to_string(bits)}});
-                    const std::vector<double> taken = time_by_turns(program, tasks, 4'000'000'000 / (bits + 512));
+                    const std::vector<double> taken = time_by_turns(program, tasks, 1'000'000'000 / (bits + 512));
                     std::printf("| %zu | u%zu %s | %zu | %.3g | %.3g | %.3g | %.3g | %.3g |\n", bits, width, high ? "Msb0" : "Lsb0", phase,
                                 bits / taken[0], bits / taken[1], bits / taken[2], taken[0] / taken[1], taken[0] / taken[2]);
                 }
@@ -366,7 +373,7 @@ static void grow(const char *program, const char *operation, const Growth &growt
                 sum += round(checked, i);
             check(program, tasks.back(), 5, sum + checked.ones_left());
         }
-    const std::vector<double> taken = time_by_turns(program, tasks, times, 15, &peers);
+    const std::vector<double> taken = time_by_turns(program, tasks, times, &peers);
     std::printf("| %s | %s | %s |", operation, len.c_str(), front.c_str());
     for (const double time : taken)
         std::printf(" %.3g |", time / double(parts));
@@ -384,12 +391,12 @@ static void grow(const char *program, const char *operation, const Growth &growt
 }
 
 static void growing(const char *program) {
-    rounds = {15, 10e6, 1e9};
+    rounds = {turn_count, 5e6};
     std::printf("\n### Sequences that get more bits or fewer, in ns: of `push`, `pop` and `extend` a bit, of the others a call\n\n"
                 "| operation | bits | behind | u8 Lsb0 | u64 Lsb0 | u8 Msb0 | u64 Msb0 | `vector<bool>` | `dynamic_bitset` | `bit-vec` | "
                 "slowest / best peer |\n|---|---|---|---|---|---|---|---|---|---|---|\n");
     for (size_t len : {1000, 1'000'000}) {
-        const size_t loops = 30'000'000 / len, calls = 10'000'000 / (len / 500 + 10);
+        const size_t loops = 10'000'000 / len, calls = 2'500'000 / (len / 500 + 10);
         const Growth whole(len, 0), behind(len, 3);
         const GrowingPeers peers(whole), peers_behind(behind);
         grow(program, "push", whole, len, loops, peers.push(), [](auto &set, size_t i) { return set.push(i); });

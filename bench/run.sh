@@ -1,11 +1,13 @@
 #!/bin/sh
-# Builds the library, its peers and the driver, writes RESULTS.md, which README.md explains, and draws speeds.svg.
+# run.sh [LAYOUTS]: builds the library, its peers and the driver, times them in 16 layouts, or so many, writes RESULTS.md, which
+# README.md explains, and draws speeds.svg.
 # What it builds goes to bench/out and to out/ of bindings, crates/bitvec_c, crates/bitvec_c_run,
 # crates/sieve and crates/bitmatrix.
 set -eu
 cd "$(dirname "$0")"
 
 processor=x86-64-v2
+layouts=${1:-16}
 registry=/usr/share/cargo/registry
 
 missing=
@@ -20,16 +22,12 @@ if [ -n "$missing" ]; then
     DEBIAN_FRONTEND=noninteractive apt-get install -y $missing >&2
 fi
 
+rm -rf out/layouts
 mkdir -p out
 (cd ../crates/bitvec_c && rt lib) >&2
 (cd ../crates/sieve && rt run -- count 0) >/dev/null
 (cd ../crates/bitmatrix && rt run -- chain 0) >/dev/null
 make -s -C ../bindings wheel PYTHON=/usr/bin/python3 >&2
-mkdir -p out/proved
-./proved.py bitvec_c out/proved/libbitvec_c.a >&2
-for program in sieve bitmatrix; do
-    ./proved.py "$program" "out/proved/$program" >&2
-done
 ./unproved.py bitvec_times out/bitvec_times >&2
 /usr/bin/python3 -m zipfile -e ../bindings/out/fehimbary-*.whl out/python
 
@@ -38,27 +36,18 @@ rust() {
     name=$1 kind=$2 source=$3
     shift 3
     rustc --crate-name "$name" --crate-type "$kind" --out-dir out \
-        -C opt-level=3 -C "target-cpu=$processor" -C llvm-args=-x86-branches-within-32B-boundaries \
-        -C panic=abort --cap-lints allow "$@" "$source"
+        -C opt-level=3 -C "target-cpu=$processor" -C panic=abort --cap-lints allow "$@" "$source"
 }
 rust fixedbitset rlib "$registry"/fixedbitset-*/src/lib.rs --edition 2018 --cfg 'feature="std"'
 rust bit_vec rlib "$registry"/bit-vec-*/src/lib.rs --edition 2018 --cfg 'feature="std"'
 rust peers staticlib peers.rs --edition 2021 \
     --extern fixedbitset=out/libfixedbitset.rlib --extern bit_vec=out/libbit_vec.rlib
 
-# cpp OUT WORDS..: compiles one program of the benchmark
-cpp() {
-    made=$1
-    shift
-    g++ -std=c++17 -O3 "-march=$processor" -Wa,-mbranches-within-32B-boundaries -Wall -Wextra "$@" -o "out/$made"
-}
-# gcc takes the lists of checks.hpp for ones that could be as long as the memory
-cpp driver -Wno-stringop-overflow driver.cpp out/proved/libbitvec_c.a out/libpeers.a -lpthread -ldl
-cpp programs programs.cpp out/libpeers.a -lpthread -ldl
-cpp sieve sieve.cpp
-cpp closure closure.cpp
+for program in driver programs sieve closure; do
+    # gcc takes the lists of checks.hpp for ones that could be as long as the memory
+    g++ -std=c++17 -O3 "-march=$processor" -ffunction-sections -Wall -Wextra -Wno-stringop-overflow -c "$program.cpp" -o "out/$program.o"
+done
 
-out/driver plot | python3 plot.py > speeds.svg
 {
     echo "# Results"
     echo
@@ -67,15 +56,15 @@ out/driver plot | python3 plot.py > speeds.svg
     echo "- machine: $(lscpu | sed -n 's/^Model name: *//p'), $(nproc) processors"
     echo "- kit: $(rt version)"
     echo "- compilers: $(g++ --version | head -n 1), -O3 -march=$processor; $(rustc --version), -C opt-level=3 -C target-cpu=$processor"
-    echo "- jumps: none crosses a multiple of 32 bytes or ends at one, in the library and its peers"
+    echo "- layouts: $layouts; a number is their median, but for the packages for Python and Rust, which have one"
     echo "- load at the start: $(cut -d ' ' -f 1 /proc/loadavg)"
     echo
-    out/driver
-    out/programs out/bitvec_times
-    out/sieve out/proved/sieve
-    out/closure out/proved/bitmatrix
+    ./layouts.py "$layouts"
     echo
     PYTHONPATH=out/python /usr/bin/python3 beside_bitarray.py
-    ./rust.py out/proved/libbitvec_c.a
+    ./rust.py ../crates/bitvec_c/out/libbitvec_c.a
 } > out/results.md
 mv out/results.md RESULTS.md
+for layout in out/layouts/[1-4]; do
+    "$layout/driver" plot
+done | python3 plot.py > speeds.svg

@@ -12,8 +12,7 @@ import sys
 HERE = pathlib.Path(__file__).resolve().parent
 OUT = HERE / "out/rust"
 REGISTRY = pathlib.Path("/usr/share/cargo/registry")
-WORDS = ["-C", "opt-level=3", "-C", "target-cpu=x86-64-v2", "-C", "codegen-units=1", "-C", "panic=abort", "--cap-lints", "allow",
-         "-C", "llvm-args=-x86-branches-within-32B-boundaries"]
+WORDS = ["-C", "opt-level=3", "-C", "target-cpu=x86-64-v2", "-C", "codegen-units=1", "-C", "panic=abort", "--cap-lints", "allow"]
 FEATURES = ["--cfg", 'feature="std"', "--cfg", 'feature="alloc"']
 TURNS = 8
 

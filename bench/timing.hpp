@@ -3,7 +3,10 @@
 #include <algorithm>
 #include <chrono>
 #include <cstddef>
+#include <cstdio>
+#include <cstdlib>
 #include <limits>
+#include <unistd.h>
 
 // Has the compiler keep a value, and believe that memory was read and written.
 template <class Value>
@@ -11,12 +14,41 @@ inline void keep(const Value &value) {
     asm volatile("" : : "g"(value) : "memory");
 }
 
-// How many rounds a call is timed in, of how many nanoseconds at least, and of how many in all.
+// The processes of all layouts work by turns, so that each round of one lies beside those of the others: a byte goes round, and
+// who has read it works. TURNS names where it is read and where it goes; without TURNS a process is alone.
+class Turns {
+    int from = -1, to = -1;
+
+    void take() {
+        char byte;
+        if (from >= 0 && read(from, &byte, 1) != 1)
+            std::abort();
+    }
+    void pass() {
+        if (to >= 0 && write(to, ".", 1) != 1)
+            std::abort();
+    }
+
+  public:
+    Turns() {
+        if (const char *ends = std::getenv("TURNS"))
+            std::sscanf(ends, "%d %d", &from, &to);
+        take();
+    }
+    ~Turns() { pass(); }
+    void next() {
+        pass();
+        take();
+    }
+};
+inline Turns turns;
+
+// How many rounds a call is timed in, each a turn, and of how many nanoseconds at least.
 struct Rounds {
     int count;
-    double nanoseconds, most;
+    double nanoseconds;
 };
-inline Rounds rounds{31, 50'000, 1e9};
+inline Rounds rounds{21, 50'000};
 
 // The time of so many calls, in nanoseconds.
 template <class Call>
@@ -38,17 +70,17 @@ size_t calls_of_a_round(Call &call) {
     return calls;
 }
 
-// The time of one call, in nanoseconds: the best of so many rounds, each of as many calls as take so long; of fewer rounds
-// where these take longer in all.
+// The time of one call, in nanoseconds: the best of so many rounds, each of as many calls as take so long. A call before a round
+// brings the memory back that other layouts have driven out.
 template <class Call>
 double time_call(Call call) {
     const size_t calls = calls_of_a_round(call);
     double best = std::numeric_limits<double>::infinity();
-    double total = 0;
-    for (int round = 0; round < rounds.count && total < rounds.most; ++round) {
-        double taken = time_calls(call, calls);
-        best = std::min(best, taken / double(calls));
-        total += taken;
+    for (int round = 0; round < rounds.count; ++round) {
+        turns.next();
+        if (calls > 1)
+            call();
+        best = std::min(best, time_calls(call, calls) / double(calls));
     }
     return best;
 }
