@@ -48,7 +48,7 @@ CONDITIONS = [
     ("HasShortWindow ?b ?list ?window", "crate::conditions::has_window({b}, #list, {window}) && 0 < {window}.len && {window}.len <= {b}", "{window} lies in the elements and has from 1 bit to the width"),
     ("FitsWithin ?from ?to ?dest ?len", "crate::conditions::fits_within({from}, {to}, {dest}, {len})", "{from} <= {to} <= {len}, and as many bits fit from {dest} on"),
     ("HasRoom ?b ?count ?from ?to ?dest", "crate::conditions::has_bits({b}, {count}, {from}, {to}) && crate::conditions::fits_within({from}, {to}, {dest}, {b} * {count})", "{from} <= {to} <= the bits of the elements, and as many fit from {dest} on"),
-    ("All (λ field. field.0 ≤ ?most) ?row", "{row}.iter().all(|field| field.0 <= {most})", "each width of {row} is at most {most}"),
+    ("IsTrue (list_all (λ field. nat_le field.0 ?most) ?row)", "{row}.iter().all(|field| field.0 <= {most})", "each width of {row} is at most {most}"),
     ("LieApart ?from ?to ?dest", "{to} <= {dest} || {to} - {from} <= {from} && {dest} <= {from} - ({to} - {from})", "the ranges lie apart"),
     ("IsRestOf ?rest ?len", "{rest}.front <= {rest}.back && {rest}.back <= {len}", "{rest}.front <= {rest}.back <= {len}"),
     ("CoversElements ?b ?view", "crate::conditions::covers(self.window(), self.elements.len(), T::BITS as usize)", "the view has all bits of its elements"),

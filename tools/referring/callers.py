@@ -1,4 +1,5 @@
-"""Which proved functions call what: those of examples and programs, in files that name no other library of the repository."""
+"""Which proved functions call what: those of examples and programs, in files that name `bitvec` or records, and no
+other library of the repository."""
 import re
 
 from library import BITVEC, RECORDS, TOP
@@ -20,7 +21,8 @@ def callers(lines):
             continue
         for path in sorted((TOP / "crates" / crate / "src").rglob("*.rt")):
             text = path.read_text()
-            if {*OTHERS.findall(text)} <= {crate, "bitvec_test_support"}:
+            is_caller = any(f"{it}::" in text for it in (BITVEC, RECORDS))
+            if is_caller and {*OTHERS.findall(text)} <= {crate, "bitvec_test_support"}:
                 for name, called in functions(text):
                     yield name, f"`{name}` (`{crate}`, `{path.relative_to(TOP / 'crates' / crate)}`)", called
 

@@ -21,4 +21,6 @@ mod own_edits;
 #[cfg(test)]
 mod own_views;
 #[cfg(test)]
+mod segments;
+#[cfg(test)]
 mod sets;

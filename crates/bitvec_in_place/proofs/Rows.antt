@@ -1,11 +1,17 @@
--- Numbers one behind the other: with one more of them, and beside an edit.
-use Rattle.std.specs.Prelude.{◌≡◌, ℕ, ◌+◌, ◌%◌, ◌^◌, ◌<◌, ◌≤◌, Bool, List, [], ◌∷◌, ◌++◌, length, slice_index_or, take}
+-- Numbers one behind the other: the width of one of them, with one more of them, and beside an edit.
+use Rattle.std.specs.Prelude.{◌≡◌, ℕ, ◌+◌, ◌%◌, ◌^◌, ◌<◌, ◌≤◌, Bool, List, [], ◌∷◌, ◌++◌, IsTrue, length, nat_le, slice_index_or, take}
+use Rattle.std.specs.List.{list_all}
 use Rattle.std.proofs.Common.{arith, inl, ◌∙◌, ap}
+use Rattle.std.proofs.lemmas.Bool.{leb-true}
 use Rattle.std.proofs.lemmas.List.{take_more}
-use Rattle.std.proofs.lemmas.List.Sums.{sum_by-cons, sum_by_push}
+use Rattle.std.proofs.lemmas.List.Sums.{AllPass-from_list_all, sum_by-cons, sum_by_push}
 use Rattle.bitvec_in_place.specs.ChangesLaws.{number-unchanged}
 use Rattle.bitvec_in_place.specs.Ranges.{ChangesOnly, number_in}
 use Rattle.bitvec_in_place.specs.Rows.{HasRow, StandInRow, row_len}
+
+-- each of their widths is at most 64 where all of them are
+pub width-fits : (row : List (ℕ × ℕ)) (i : ℕ) (d : ℕ × ℕ) → IsTrue (list_all (λ (field : ℕ × ℕ). nat_le field.0 64) row) → i < length row → (slice_index_or row i d).0 ≤ 64
+width-fits row i d fit inside = leb-true _ _ (AllPass-from_list_all (λ (field : ℕ × ℕ). nat_le field.0 64) row fit i d inside)
 
 -- an edit behind them leaves them
 row-unchanged : (high : Bool) (b : ℕ) (old new : List Bool) (m e from : ℕ) (row : List (ℕ × ℕ)) → ChangesOnly m e old new → m ≤ length old → from + row_len row ≤ m → StandInRow high b old from row → StandInRow high b new from row

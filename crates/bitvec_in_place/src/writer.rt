@@ -146,8 +146,8 @@ impl<'a, T: BitStore, O: BitOrder> BitWriter<'a, T, O> {
 
 #[tactic(auto, using(crate::proofs::Cursors::cursors))]
 impl<'a, T: BitStore, O: FieldOrder> BitWriter<'a, T, O> {
-    ghost use Rattle.std.specs.Prelude.{◌≡◌, ◌+◌, ◌%◌, ◌^◌, OnOk, if◌then◌else◌, is_ok, map};
-    ghost use Rattle.std.specs.List.{All};
+    ghost use Rattle.std.specs.Prelude.{◌≡◌, ◌+◌, ◌%◌, ◌^◌, OnOk, if◌then◌else◌, is_ok, map, nat_le};
+    ghost use Rattle.std.specs.List.{list_all};
     ghost use Rattle.bitvec_base.specs.Memory.{memory_bits};
     ghost use Rattle.bitvec_in_place.specs.Cursors.{Answers, KeepsElements, elements_of, lender_of, writing};
     ghost use Rattle.bitvec_in_place.specs.Ranges.{ChangesOnly, number_in, numbered};
@@ -175,7 +175,7 @@ impl<'a, T: BitStore, O: FieldOrder> BitWriter<'a, T, O> {
     /// that has more bits the lowest are written. If there are too few bits for all, it is refused with `Full`, and nothing
     /// is written. Condition: each width is at most 64.
     pub fn put_row(&mut self, row: &[(u32, u64)]) -> Result<(), CursorError>
-        requires { All (λ field. field.0 ≤ 64) row.now }
+        requires { IsTrue (list_all (λ field. nat_le field.0 64) row.now) }
         ensures answer { Answers ((writing self.old).position + row_len row.now ≤ length (writing self.old).bits) Full result }
         ensures row { OnOk result (HasRow O.HIGH T.BITS (writing self.new).bits (writing self.old).position row.now) }
         ensures outside { ChangesOnly (writing self.old).position (writing self.new).position (writing self.old).bits (writing self.new).bits }

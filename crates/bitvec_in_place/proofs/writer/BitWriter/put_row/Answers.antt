@@ -2,7 +2,7 @@ use Rattle.std.proofs.Common.{◌≤◌, ◌+◌, ℕ, arith, refl}
 use Rattle.std.proofs.lemmas.List.Sums.{sum_by-take-drop}
 use Rattle.bitvec_in_place.specs.ChangesLaws.{changes-then}
 use Rattle.bitvec_in_place.specs.MovedLaws.{length-bits_of}
-use Rattle.bitvec_in_place.proofs.Rows.{row-more, row_len-more}
+use Rattle.bitvec_in_place.proofs.Rows.{row-more, row_len-more, width-fits}
 use Rattle.bitvec_in_place.specs.Rows.{row_len}
 use Rattle.bitvec_in_place.proofs.writer.BitWriter.put_row.Goals as goal
 
@@ -21,6 +21,9 @@ loop-field-preserved g c =
       len = cc;
       name = cc;
     }
+
+pub put_next-requires-clause-bound : goal.put_next-requires-clause-bound
+put_next-requires-clause-bound g c = width-fits c.args.row.now c.loop-field.field-index (0, 0) c.requires c.loop-field-test.true
 
 pub put_next-requires-clause-room : goal.put_next-requires-clause-room
 put_next-requires-clause-room g c =
