@@ -11,8 +11,8 @@ use bitvec_base::{Lsb0, Msb0, Window};
 use bitvec_cells::{Cells, CellsRead, Exclusive, Shared};
 use bitvec_checked::{DONE, LSB0, memories_status, or_next};
 use bitvec_engine::SliceOrder;
-use bitvec_run::{FieldStep, RunStep, whole};
 use bitvec_numbers::FieldOrder;
+use bitvec_run::{FieldStep, RunStep, whole};
 use bitvec_store::BitStore;
 
 /// A step has the number of no operation.

@@ -1,10 +1,10 @@
 //! Worked rows of runs with numbers.
 use bitvec_base::{Lsb0, Msb0, Window};
 use bitvec_cells::{Exclusive, Shared};
-use bitvec_engine::SliceOrder;
 use bitvec_commands::{Op, Refusal, Reply};
-use bitvec_run::{FieldOp, FieldStep, run_fields};
+use bitvec_engine::SliceOrder;
 use bitvec_numbers::FieldOrder;
+use bitvec_run::{FieldOp, FieldStep, run_fields};
 use bitvec_store::BitStore;
 use bitvec_test_support::Counted;
 use std::alloc::Global;

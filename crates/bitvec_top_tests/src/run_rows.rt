@@ -1,8 +1,8 @@
 //! Worked rows: what a run replies, and the memory that it leaves.
 use crate::run_slices::{FOUR_NIBBLES_REPLIES, answer, four_nibbles};
 use bitvec_base::{HiLo, Lsb0, Window};
-use bitvec_engine::SliceOrder;
 use bitvec_commands::{Op, Refusal, Reply};
+use bitvec_engine::SliceOrder;
 use bitvec_run::{RunError, Step};
 use bitvec_store::BitStore;
 use std::process::Abort;

@@ -1,8 +1,8 @@
 //! A run on slices, and the row that several tests share.
 use bitvec_base::Window;
 use bitvec_cells::{Exclusive, Shared};
-use bitvec_engine::SliceOrder;
 use bitvec_commands::{Op, Reply};
+use bitvec_engine::SliceOrder;
 use bitvec_run::{RunError, Step, run};
 use bitvec_store::BitStore;
 use std::alloc::Allocator;

@@ -2,8 +2,8 @@
 use crate::run_slices::{StepRow, step};
 use bitvec_base::{Lsb0, Msb0, Window};
 use bitvec_cells::{Exclusive, Shared};
-use bitvec_engine::SliceOrder;
 use bitvec_commands::{Op, Reply};
+use bitvec_engine::SliceOrder;
 use bitvec_run::run;
 use bitvec_store::BitStore;
 use bitvec_test_support::Counted;
