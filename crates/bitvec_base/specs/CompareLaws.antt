@@ -44,8 +44,8 @@ same-equal a b n a-long b-long same =
     sym ((same_bits-decides a b).1 (same_lists a b (omega arith) (λ k d inside.
     get_or_default a k d false inside ∙ same k (omega arith) ∙ get_or_default b k false d (omega arith))))
 
-pub same-unequal : (a b : List Bool) (m n : ℕ) → length a ≡ m → length b ≡ n → m ≢ n → false ≡ same_bits a b
-same-unequal a b m n a-long b-long apart = sym (unequal beq a b (λ e. apart (sym a-long ∙ e ∙ b-long)))
+pub same-unequal : (a b : List Bool) {m n : ℕ} → length a ≡ m → length b ≡ n → m ≢ n → false ≡ same_bits a b
+same-unequal a b a-long b-long apart = sym (unequal beq a b (λ e. apart (sym a-long ∙ e ∙ b-long)))
 
 -- ---- order
 
@@ -80,8 +80,8 @@ order-behind (x ∷ a) [] (suc n) left right same = absurd (omega arith)
 order-behind (x ∷ a) (y ∷ b) (suc n) left right same = order-behind a b n (omega arith) (omega arith) (same-tail x y a b n same) ∙ sym (same_passes x y _ (same 0 (omega arith)))
 
 -- the first bits that differ decide
-pub order-differ : (a b : List Bool) (i : ℕ) (x y : Bool) → i < length a → i < length b → SameBelow a b i → x ≡ slice_index_or a i false → y ≡ slice_index_or b i false → differs x y ≡ true → bool_cmp x y ≡ slice_cmp bool_cmp a b
-order-differ a b i x y a-long b-long same left right told =
+pub order-differ : (a b : List Bool) (i : ℕ) {x y : Bool} → i < length a → i < length b → SameBelow a b i → x ≡ slice_index_or a i false → y ≡ slice_index_or b i false → differs x y ≡ true → bool_cmp x y ≡ slice_cmp bool_cmp a b
+order-differ a b i {x} {y} a-long b-long same left right told =
     rw (left, right) (first_apart a b i a-long b-long same (λ e. differs-apart x y told (left ∙ e ∙ sym right)))
 
 longer_same : (m n : ℕ) → nat_cmp m n ≡ nat_cmp (suc m) (suc n)
@@ -97,5 +97,5 @@ lengths_decide (x ∷ a) (y ∷ b) same =
     ∙ sym (same_passes x y _ (same 0 (omega arith)))
 
 -- where none differs, the lengths do
-pub order-same : (a b : List Bool) (m n i : ℕ) → length a ≡ m → length b ≡ n → min m n ≤ i → SameBelow a b i → nat_cmp m n ≡ slice_cmp bool_cmp a b
-order-same a b m n i a-long b-long all same = rw (← a-long, ← b-long) (lengths_decide a b (λ k h. same k (omega arith)))
+pub order-same : (a b : List Bool) {m n : ℕ} (i : ℕ) → length a ≡ m → length b ≡ n → min m n ≤ i → SameBelow a b i → nat_cmp m n ≡ slice_cmp bool_cmp a b
+order-same a b i a-long b-long all same = rw (← a-long, ← b-long) (lengths_decide a b (λ k h. same k (omega arith)))

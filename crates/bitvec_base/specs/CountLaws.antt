@@ -19,11 +19,11 @@ ones_and_zeros (false ∷ list) =
     omega arith
 
 -- so the one number tells the other
-pub ones_within : (list : List Bool) (n ones : ℕ) → n ≡ length list → ones ≡ count_by (λ (bit : Bool). bit) list → ones ≤ n
-ones_within list n ones long is = let sum = ones_and_zeros list in omega arith
+pub ones_within : (list : List Bool) {n ones : ℕ} → n ≡ length list → ones ≡ count_by (λ (bit : Bool). bit) list → ones ≤ n
+ones_within list long is = let sum = ones_and_zeros list in omega arith
 
-pub zeros_left : (list : List Bool) (n ones : ℕ) → n ≡ length list → ones ≡ count_by (λ (bit : Bool). bit) list → n - ones ≡ count_by not list
-zeros_left list n ones long is = let sum = ones_and_zeros list in omega arith
+pub zeros_left : (list : List Bool) {n ones : ℕ} → n ≡ length list → ones ≡ count_by (λ (bit : Bool). bit) list → n - ones ≡ count_by not list
+zeros_left list long is = let sum = ones_and_zeros list in omega arith
 
 -- the ones of slices: of two that meet, of one at most its length, of none
 pub count-join : (list : List Bool) (a m e : ℕ) → a ≤ m → m ≤ e → e ≤ length list → count_by (λ (bit : Bool). bit) (slice_range list a m) + count_by (λ (bit : Bool). bit) (slice_range list m e) ≡ count_by (λ (bit : Bool). bit) (slice_range list a e)

@@ -84,8 +84,8 @@ last-one_not_here b at v m n more order none is clear =
     last-not_here true (element_bits b at v) m b more order (omega arith) none false (sym (bit-clear b at v (m - 1) (omega arith) zero)) refl
 
 -- after all of them
-pub first-one_nowhere : (b : ℕ) (at : ℕ → ℕ → ℕ) (v i : ℕ) → i ≡ b → first_place true (slice_range (element_bits b at v) 0 i) ≡ None → None ≡ first_place true (element_bits b at v)
-first-one_nowhere b at v i all none =
+pub first-one_nowhere : {b : ℕ} (at : ℕ → ℕ → ℕ) (v : ℕ) {i : ℕ} → i ≡ b → first_place true (slice_range (element_bits b at v) 0 i) ≡ None → None ≡ first_place true (element_bits b at v)
+first-one_nowhere {b} at v {i} all none =
     let long = length-element_bits b at v in
     sym (ap (first_place true) (sym (range-all (element_bits b at v) i (omega arith))) ∙ none)
 

@@ -52,9 +52,9 @@ mirrored-outside list low high k d ends order inside side =
     side
     ∙ get_or-reverse list k d inside
 
-pub mirror-none : {X : Type 0} (list : List X) (high : ℕ) → high ≡ length list → write_at (reverse list) 0 (slice_range list 0 high) ≡ list
+pub mirror-none : {X : Type 0} {list : List X} {high : ℕ} → high ≡ length list → write_at (reverse list) 0 (slice_range list 0 high) ≡ list
 unfolding write_at
-mirror-none list high all = same_lists _ _ (search (rules, places)) (λ k d inside. grind (arith, places))
+mirror-none all = same_lists _ _ (search (rules, places)) (λ k d inside. grind (arith, places))
 
 -- one pair more is exchanged
 mirror-first : {X : Type 0} (list : List X) (low high : ℕ) (d : X) → low + high ≡ length list → low + 1 < high → slice_index_or (swap (write_at (reverse list) low (slice_range list low high)) low (high - 1)) low d ≡ slice_index_or (write_at (reverse list) (low + 1) (slice_range list (low + 1) (high - 1))) low d

@@ -42,19 +42,19 @@ pub transfer-next : {b : ℕ} {at : ℕ → ℕ → ℕ} {old mid now : List ℕ
     → Writes b at old mid window (overwritten i new (list_in b at old window)) → Writes b at mid now window (slice_set (list_in b at mid window) i x) → x ≡ slice_index_or new i false
     → Writes b at old now window (overwritten (i + 1) new (list_in b at old window))
 transfer-next {b} {at} {old} {mid} {now} {window} new {i} {x} has long h before after is =
-    let old-long = length-list b at old window has in
+    let old-long = length-list at has in
     Writes-next (λ l. slice_set l i x) has before after (overwritten-next i new (list_in b at old window) x false (omega arith) (omega arith) is)
 
 -- the window's own from there on are as they were
 pub transfer-rest : {b : ℕ} {at : ℕ → ℕ → ℕ} {old mid : List ℕ} {window : Window} (new : List Bool) {i : ℕ} → HasWindow b old window → length new ≡ window.len → i < window.len
     → Writes b at old mid window (overwritten i new (list_in b at old window)) → slice_index_or (list_in b at mid window) i false ≡ slice_index_or (list_in b at old window) i false
 transfer-rest {b} {at} {old} {mid} {window} new {i} has long h before =
-    let old-long = length-list b at old window has in
-    ap (λ l. slice_index_or l i false) (Writes-holds b at old mid window _ has before)
+    let old-long = length-list at has in
+    ap (λ l. slice_index_or l i false) (Writes-holds has before)
     ∙ overwritten-rest i new (list_in b at old window) false (omega arith) (omega arith)
 
 pub transfer-all : {b : ℕ} {at : ℕ → ℕ → ℕ} {old now : List ℕ} {window : Window} {new : List Bool} {i : ℕ} → HasWindow b old window → length new ≡ window.len → i ≡ window.len
     → Writes b at old now window (overwritten i new (list_in b at old window)) → Writes b at old now window new
 transfer-all {b} {at} {old} {now} {window} {new} {i} has long all writes =
-    let old-long = length-list b at old window has in
-    Writes-is b at old now window _ _ writes (overwritten-all i new (list_in b at old window) (omega arith) (omega arith))
+    let old-long = length-list at has in
+    Writes-is writes (overwritten-all i new (list_in b at old window) (omega arith) (omega arith))

@@ -106,9 +106,9 @@ swap-writes {X} bits window i j d within first second =
 -- ---- a window written from its first place on
 
 -- After `new` is written into a window's first places, setting the value behind it is writing one value more.
-pub window-push : {X : Type 0} (before : List X) (window : Window) (new : List X) (i : ℕ) (x : X) → IsWithin window (length before) → length new ≡ i → i < window.len
+pub window-push : {X : Type 0} (before : List X) {window : Window} (new : List X) {i : ℕ} (x : X) → IsWithin window (length before) → length new ≡ i → i < window.len
     → write_window (write_window before window new) window (slice_set (window_of (write_window before window new) window) i x) ≡ write_window before window (new ++ (x ∷ []))
-window-push before window new i x within long h =
+window-push before {window} new {i} x within long h =
     let start = within.start in
     let len = within.len in
     let now = write_window before window new in

@@ -28,7 +28,7 @@ module _ (b : ℕ) (at : ℕ → ℕ → ℕ) (xs : List ℕ) (window : Window) 
   unfolding places_in places_of
   places-from =
       let list = list_in b at xs window in
-      let long = length-list b at xs window has in
+      let long = length-list at has in
       let left = length-drop from list in
       let count : window.len - from ≡ length (drop from list) = omega arith in
       let start : from ≡ from + 0 = omega arith in

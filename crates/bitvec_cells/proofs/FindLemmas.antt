@@ -34,8 +34,8 @@ bit_if : (v w p : ℕ) (want : Bool) → bit_at (if want then v else w) p ≡ (i
 bit_if v w p true = refl
 bit_if v w p false = refl
 
-both_ones : (c d : ℕ) → c < 2 → d < 2 → min c d ≡ 1 → (c ≡ 1) × (d ≡ 1)
-both_ones c d hc hd one = (omega arith, omega arith)
+both_ones : {c d : ℕ} → c < 2 → d < 2 → min c d ≡ 1 → (c ≡ 1) × (d ≡ 1)
+both_ones hc hd one = (omega arith, omega arith)
 
 pub sought-shows : (b : ℕ) (at : ℕ → ℕ → ℕ) → Permutes b (at b) → (v m from to : ℕ) (want : Bool) → from ≤ to → to ≤ b → v < 2 ^ b
     → m ≡ bit_and (if want then v else 2 ^ b - 1 - v) (mask_of (at b) from to) → Shows b at v m from to want
@@ -44,7 +44,7 @@ sought-shows b at p v m from to want order bound fits is =
     let mask : ℕ = mask_of (at b) from to in
     let met : (i : ℕ) → bit_at m (at b i) ≡ min (bit_at seen (at b i)) (bit_at mask (at b i)) = λ i. ap (λ (n : ℕ). bit_at n (at b i)) is ∙ bit_at_and seen mask (at b i) in
     let ones : (i : ℕ) → i < b → slice_index_or (element_bits b at m) i false ≡ true → (bit_at seen (at b i) ≡ 1) × (bit_at mask (at b i) ≡ 1) =
-    λ i below set. both_ones _ _ (bit_at-lt seen (at b i)) (bit_at-lt mask (at b i)) (sym (met i) ∙ set-bit b at m i below set) in
+    λ i below set. both_ones (bit_at-lt seen (at b i)) (bit_at-lt mask (at b i)) (sym (met i) ∙ set-bit b at m i below set) in
     let flipped : (i : ℕ) → i < b → bit_at (2 ^ b - 1 - v) (at b i) + bit_at v (at b i) ≡ 1 = λ i below. bit_of_complement b v (at b i) fits (p.below i below) in
     record {
       has = λ i low high set.

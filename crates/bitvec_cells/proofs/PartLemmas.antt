@@ -56,17 +56,17 @@ unfolding window_of
 part-list b at xs part order =
     ap (λ (e : ℕ). slice_range (memory_bits b at xs) (part.element * b + part.from) e) (let end : part.element * b + part.from + (part.to - part.from) ≡ part.element * b + part.to = omega arith in end)
 
-pub part-filled : (b : ℕ) (at : ℕ → ℕ → ℕ) → IsWidth b → Permutes b (at b) → (xs : List ℕ) (part : Part) (bit : Bool) → HasPart b xs part
+pub part-filled : {b : ℕ} {at : ℕ → ℕ → ℕ} → IsWidth b → Permutes b (at b) → (xs : List ℕ) (part : Part) (bit : Bool) → HasPart b xs part
     → Writes b at xs (slice_set xs part.element (put_mask b (slice_index xs part.element) (mask_of (at b) part.from part.to) bit)) (part_window b part) (replicate (part.to - part.from) bit)
-part-filled b at w p xs part bit has = record {
+part-filled {b} {at} w p xs part bit has = record {
   bits = part-put b at w p xs part.element part.from part.to bit has.element has.order has.bound;
   long = length-replicate (part.to - part.from) bit;
   elements = length-set xs part.element _;
 }
 
-pub part-whole : (b : ℕ) (at : ℕ → ℕ → ℕ) → IsWidth b → Permutes b (at b) → (xs : List ℕ) (part : Part) (bit : Bool) → HasPart b xs part → part.to - part.from ≡ b
+pub part-whole : {b : ℕ} {at : ℕ → ℕ → ℕ} → IsWidth b → Permutes b (at b) → (xs : List ℕ) (part : Part) (bit : Bool) → HasPart b xs part → part.to - part.from ≡ b
     → Writes b at xs (slice_set xs part.element (if bit then 2 ^ b - 1 else 0)) (part_window b part) (replicate (part.to - part.from) bit)
-part-whole b at w p xs part bit has all =
+part-whole {b} {at} w p xs part bit has all =
     let bound = has.bound in
     let some = width_some b w in
     let start : part.element * b + part.from ≡ part.element * b = omega arith in
@@ -76,9 +76,9 @@ part-whole b at w p xs part bit has all =
       elements = length-set xs part.element _;
     }
 
-pub part-flipped : (b : ℕ) (at : ℕ → ℕ → ℕ) → IsWidth b → Permutes b (at b) → (xs : List ℕ) (part : Part) → HasPart b xs part
+pub part-flipped : {b : ℕ} {at : ℕ → ℕ → ℕ} → IsWidth b → Permutes b (at b) → (xs : List ℕ) (part : Part) → HasPart b xs part
     → Writes b at xs (slice_set xs part.element (bit_xor (slice_index xs part.element) (mask_of (at b) part.from part.to))) (part_window b part) (map not (list_in b at xs (part_window b part)))
-part-flipped b at w p xs part has =
+part-flipped {b} {at} w p xs part has =
     let list = part-list b at xs part has.order in
     let whole = length-memory_bits b at xs in
     let inside = element_fits b part.element (length xs) has.element in
@@ -107,8 +107,8 @@ whole_part b from to at some p bound all =
     let last : to ≡ b = omega arith in
     rw (first, last) (mask_of-whole b at p)
 
-pub masked-whole : (b v from to : ℕ) (at : ℕ → ℕ) → 0 < b → Permutes b at → v < 2 ^ b → to ≤ b → to - from ≡ b → v ≡ bit_and v (mask_of at from to)
-masked-whole b v from to at some p small bound all = rw (← whole_part b from to at some p bound all) (sym (and_mask v b ∙ mod-eq_of_lt small))
+pub masked-whole : {b v : ℕ} (from to : ℕ) (at : ℕ → ℕ) → 0 < b → Permutes b at → v < 2 ^ b → to ≤ b → to - from ≡ b → v ≡ bit_and v (mask_of at from to)
+masked-whole {b} {v} from to at some p small bound all = rw (← whole_part b from to at some p bound all) (sym (and_mask v b ∙ mod-eq_of_lt small))
 
 pub flipped-whole : (b v from to : ℕ) (at : ℕ → ℕ) → 0 < b → Permutes b at → v < 2 ^ b → to ≤ b → to - from ≡ b → 2 ^ b - 1 - v ≡ bit_xor v (mask_of at from to)
 flipped-whole b v from to at some p small bound all =

@@ -49,9 +49,9 @@ first_most : (b : ℕ) (window : Window) (o : Option ℕ) → 0 < b → ((i : �
 first_most b window None some below = omega arith
 first_most b window (Some i) some below = touched-less b window.start (i + 1) window.len some (let h = below i refl in omega arith)
 
-pub first_loads-most : (b : ℕ) (at : ℕ → ℕ → ℕ) (xs : List ℕ) (window : Window) (want : Bool) → 0 < b → HasWindow b xs window → first_loads b window (first_place want (list_in b at xs window)) ≤ touched_count b window.start window.len
-first_loads-most b at xs window want some has =
-    let long = length-list b at xs window has in
+pub first_loads-most : {b : ℕ} (at : ℕ → ℕ → ℕ) {xs : List ℕ} {window : Window} (want : Bool) → 0 < b → HasWindow b xs window → first_loads b window (first_place want (list_in b at xs window)) ≤ touched_count b window.start window.len
+first_loads-most {b} at {xs} {window} want some has =
+    let long = length-list at has in
     first_most b window _ some (λ i found. let below = first_place-below want (list_in b at xs window) i found in omega arith)
 
 touched-later : (b s m n : ℕ) → 0 < b → m < n → touched_count b (s + m) (n - m) ≤ touched_count b s n
@@ -67,9 +67,9 @@ last_most : (b : ℕ) (window : Window) (o : Option ℕ) → 0 < b → ((i : ℕ
 last_most b window None some below = omega arith
 last_most b window (Some i) some below = touched-later b window.start i window.len some (below i refl)
 
-pub last_loads-most : (b : ℕ) (at : ℕ → ℕ → ℕ) (xs : List ℕ) (window : Window) (want : Bool) → 0 < b → HasWindow b xs window → last_loads b window (last_place want (list_in b at xs window)) ≤ touched_count b window.start window.len
-last_loads-most b at xs window want some has =
-    let long = length-list b at xs window has in
+pub last_loads-most : {b : ℕ} (at : ℕ → ℕ → ℕ) {xs : List ℕ} {window : Window} (want : Bool) → 0 < b → HasWindow b xs window → last_loads b window (last_place want (list_in b at xs window)) ≤ touched_count b window.start window.len
+last_loads-most {b} at {xs} {window} want some has =
+    let long = length-list at has in
     last_most b window _ some (λ i found. let below = last_place-below want (list_in b at xs window) i found in omega arith)
 
 -- ---- a walk from the front
@@ -92,13 +92,13 @@ pub passed-none : (b : ℕ) (at : ℕ → ℕ → ℕ) (xs : List ℕ) (window :
 unfolding window_of
 passed-none b at xs window = range-none (memory_bits b at xs) window.start (window.start + (window.start - window.start)) (omega arith)
 
-pub Writes-none_passed : (b : ℕ) (at : ℕ → ℕ → ℕ) (xs : List ℕ) (window : Window) → HasWindow b xs window → Writes b at xs xs (passed window window) []
-Writes-none_passed b at xs window has =
+pub Writes-none_passed : {b : ℕ} {at : ℕ → ℕ → ℕ} {xs : List ℕ} {window : Window} → HasWindow b xs window → Writes b at xs xs (passed window window) []
+Writes-none_passed {b} {at} {xs} {window} has =
     let start = has.within.start in
-    Writes-empty b at xs xs (passed window window) (record { fits = has.fits; within = record { start = start; len = omega arith } }) (omega arith) refl
+    Writes-empty {b = b} at {xs = xs} xs {window = passed window window} (record { fits = has.fits; within = record { start = start; len = omega arith } }) (omega arith) refl
 
-pub Walked-next : (b : ℕ) (window rest : Window) (t : ℕ) → 0 < b → 0 < rest.len → t ≡ (first_part_of b rest).to - (first_part_of b rest).from → Walked b window rest → Walked b window (window_after t rest)
-Walked-next b window rest t some more step walk =
+pub Walked-next : {b : ℕ} {window rest : Window} {t : ℕ} → 0 < b → 0 < rest.len → t ≡ (first_part_of b rest).to - (first_part_of b rest).from → Walked b window rest → Walked b window (window_after t rest)
+Walked-next {b} {window} {rest} {t} some more step walk =
     let start = walk.start in
     let end = walk.end in
     let place = div-add-mod' rest.start b in
@@ -112,9 +112,9 @@ Walked-next b window rest t some more step walk =
     }
 
 -- each part takes one element more, however many of its bits are taken
-pub touched-next : (b : ℕ) (window rest : Window) (t : ℕ) → 0 < b → 0 < rest.len → 0 < t → t ≤ (first_part_of b rest).to - (first_part_of b rest).from → Walked b window rest
+pub touched-next : {b : ℕ} {window rest : Window} (t : ℕ) → 0 < b → 0 < rest.len → 0 < t → t ≤ (first_part_of b rest).to - (first_part_of b rest).from → Walked b window rest
     → touched_count b window.start (rest.start + t - window.start) ≡ touched_count b window.start (rest.start - window.start) + 1
-touched-next b window rest t some more taken within walk =
+touched-next {b} {window} {rest} t some more taken within walk =
     let start = walk.start in
     let head = mod_below rest.start b some in
     let place = div-add-mod' rest.start b in
@@ -145,10 +145,10 @@ touched-next b window rest t some more taken within walk =
     (cases_lt window.start rest.start)
 
 -- a write of the next part goes on behind what was written
-pub Writes-next_part : (b : ℕ) (at : ℕ → ℕ → ℕ) (old mid new : List ℕ) (window rest : Window) (t : ℕ) (list other : List Bool) → 0 < b → 0 < rest.len → t ≡ (first_part_of b rest).to - (first_part_of b rest).from → HasWindow b old window → Walked b window rest
+pub Writes-next_part : {b : ℕ} {at : ℕ → ℕ → ℕ} {old mid new : List ℕ} {window rest : Window} {t : ℕ} {list other : List Bool} → 0 < b → 0 < rest.len → t ≡ (first_part_of b rest).to - (first_part_of b rest).from → HasWindow b old window → Walked b window rest
     → Writes b at old mid (passed window rest) list → Writes b at mid new (part_window b (first_part_of b rest)) other
     → Writes b at old new (passed window (window_after t rest)) (list ++ other)
-Writes-next_part b at old mid new window rest t list other some more step has walk before after =
+Writes-next_part {b} {at} {old} {mid} {new} {window} {rest} {t} {list} {other} some more step has walk before after =
     let start = walk.start in
     let end = walk.end in
     let low = has.within.start in
@@ -156,21 +156,21 @@ Writes-next_part b at old mid new window rest t list other some more step has wa
     let place = first-place b rest in
     let len = first-len b rest some more in
     let whole = passed window (window_after t rest) in
-    Writes-join b at old mid new (passed window rest) (part_window b (first_part_of b rest)) whole list other
+    Writes-join {b = b} {at = at} {old = old} {mid = mid} {new = new} {first = passed window rest} {second = part_window b (first_part_of b rest)} {whole = whole} {list = list} {other = other}
     (record { fits = has.fits; within = record { start = low; len = omega arith } })
     refl (omega arith) (omega arith) before after
 
 -- the bits passed, with those of the next part
-pub list-next : (b : ℕ) (at : ℕ → ℕ → ℕ) (xs : List ℕ) (window rest : Window) (t : ℕ) → 0 < b → 0 < rest.len → t ≡ (first_part_of b rest).to - (first_part_of b rest).from → HasWindow b xs window → Walked b window rest
+pub list-next : {b : ℕ} (at : ℕ → ℕ → ℕ) {xs : List ℕ} {window rest : Window} {t : ℕ} → 0 < b → 0 < rest.len → t ≡ (first_part_of b rest).to - (first_part_of b rest).from → HasWindow b xs window → Walked b window rest
     → list_in b at xs (passed window rest) ++ list_in b at xs (part_window b (first_part_of b rest)) ≡ list_in b at xs (passed window (window_after t rest))
-list-next b at xs window rest t some more step has walk =
+list-next {b} at {xs} {window} {rest} {t} some more step has walk =
     let start = walk.start in
     let end = walk.end in
     let low = has.within.start in
     let high = has.within.len in
     let place = first-place b rest in
     let len = first-len b rest some more in
-    list-join b at xs (passed window rest) (part_window b (first_part_of b rest)) (passed window (window_after t rest))
+    list-join {b = b} at {xs = xs} (passed window rest) (part_window b (first_part_of b rest)) {whole = passed window (window_after t rest)}
     (record { fits = has.fits; within = record { start = low; len = omega arith } })
     refl (omega arith) (omega arith)
 
@@ -183,14 +183,14 @@ length-first b at xs window rest some more has walk =
     let high = has.within.len in
     let place = first-place b rest in
     let len = first-len b rest some more in
-    length-list b at xs (part_window b (first_part_of b rest)) (record { fits = has.fits; within = record { start = omega arith; len = omega arith } })
+    length-list {b = b} at {xs = xs} {window = part_window b (first_part_of b rest)} (record { fits = has.fits; within = record { start = omega arith; len = omega arith } })
 
-pub length-passed : (b : ℕ) (at : ℕ → ℕ → ℕ) (xs : List ℕ) (window rest : Window) → HasWindow b xs window → Walked b window rest → length (list_in b at xs (passed window rest)) ≡ rest.start - window.start
-length-passed b at xs window rest has walk =
+pub length-passed : {b : ℕ} (at : ℕ → ℕ → ℕ) {xs : List ℕ} {window rest : Window} → HasWindow b xs window → Walked b window rest → length (list_in b at xs (passed window rest)) ≡ rest.start - window.start
+length-passed {b} at {xs} {window} {rest} has walk =
     let start = walk.start in
     let end = walk.end in
     let high = has.within.len in
-    length-list b at xs (passed window rest) (record { fits = has.fits; within = record { start = has.within.start; len = omega arith } })
+    length-list {b = b} at {xs = xs} {window = passed window rest} (record { fits = has.fits; within = record { start = has.within.start; len = omega arith } })
 
 at_most_one : (whole : Bool) → (if whole then 0 else 1) ≤ 1
 at_most_one true = omega arith
@@ -208,9 +208,9 @@ edge_loads-last window rest later none =
     cond-false _ _ _ (ne_eqb rest.start window.start (λ e. omega arith)) ∙ cond-true _ _ _ (eq-eqb rest.len 0 (omega arith))
 
 -- a fill loads the edges alone: each part but the first and the last is a whole element
-pub edge_loads-next : (b : ℕ) (window rest : Window) (t : ℕ) → 0 < b → 0 < rest.len → t ≡ (first_part_of b rest).to - (first_part_of b rest).from → Walked b window rest
+pub edge_loads-next : {b : ℕ} {window rest : Window} (t : ℕ) → 0 < b → 0 < rest.len → t ≡ (first_part_of b rest).to - (first_part_of b rest).from → Walked b window rest
     → edge_loads window rest + part_loads b (first_part_of b rest) ≤ edge_loads window (window_after t rest)
-edge_loads-next b window rest t some more step walk =
+edge_loads-next {b} {window} {rest} t some more step walk =
     let start = walk.start in
     let head = mod_below rest.start b some in
     let part = first_part_of b rest in

@@ -99,10 +99,10 @@ block-ready b at step bit first second third room size width long start len most
     let wide : b ≤ 128 = at_each_width (λ m. m ≤ 128) (omega arith) (omega arith) (omega arith) (omega arith) (omega arith) b width in
     let all : b * length first ≡ b * 513 = ap (λ (m : ℕ). b * m) long in
     let has : HasWindow b first room = record { fits = omega arith; within = record { start = omega arith; len = omega arith } } in
-    let mid : HasWindow b second room = HasWindow-kept b first second room has before.elements in (
-      HasWindow-kept b second third room mid after.elements,
-      Writes-holds b at second third room _ mid after
-          ∙ ap (with_every step (λ k. bit)) (Writes-holds b at first second room _ has before ∙ ap (λ n. replicate n (not bit)) len),
+    let mid : HasWindow b second room = HasWindow-kept second has before.elements in (
+      HasWindow-kept third mid after.elements,
+      Writes-holds mid after
+          ∙ ap (with_every step (λ k. bit)) (Writes-holds has before ∙ ap (λ n. replicate n (not bit)) len),
     )
 
 -- ---- a block more
@@ -113,11 +113,11 @@ pub block-filled : (b : ℕ) (at : ℕ → ℕ → ℕ) (step : ℕ) (bit : Bool
     → Writes b at old new (until window next) (take next (with_every step (λ k. bit) (list_in b at old window)))
 block-filled b at step bit op old mid new block window part room held from next count size sets clears has inside long zero end bound fits is held-is pattern-is before after =
     let list = list_in b at old window in
-    let whole = length-list b at old window has in
+    let whole = length-list at has in
     let made = length-with_every step (λ k. bit) list in
-    let left = stretch-old b at old mid window _ from next has (omega arith) bound before in
+    let left = stretch-old from next has (omega arith) bound before in
     let size-is : count ≡ next - from = omega arith in
-    let other = ap (list_in b at block) held-is ∙ list-range b at block room 0 count inside (omega arith) (omega arith) ∙ ap (λ (l : List Bool). slice_range l 0 count) pattern-is ∙ ap (λ n. slice_range (pattern step bit size) 0 n) size-is in
+    let other = ap (list_in b at block) held-is ∙ list-range at 0 count inside (omega arith) (omega arith) ∙ ap (λ (l : List Bool). slice_range l 0 count) pattern-is ∙ ap (λ n. slice_range (pattern step bit size) 0 n) size-is in
     let stored = ap (λ (l : List Bool). combined (operator op) l (list_in b at block held)) (ap (list_in b at mid) is ∙ left) ∙ ap (combined (operator op) (slice_range list from next)) other
     ∙ pattern-combined step bit op list from next size sets clears zero (omega arith) (omega (arith, whole)) (omega arith) in
-    stretch-next b at old mid new window (with_every step (λ k. bit) list) _ from next has (omega arith) bound (made ∙ whole) stored before (subst (λ (p : Window). Writes b at mid new p (combined (operator op) (list_in b at mid part) (list_in b at block held))) is after)
+    stretch-next new (with_every step (λ k. bit) list) from next has (omega arith) bound (made ∙ whole) stored before (subst (λ (p : Window). Writes b at mid new p (combined (operator op) (list_in b at mid part) (list_in b at block held))) is after)

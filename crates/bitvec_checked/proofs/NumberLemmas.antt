@@ -10,6 +10,6 @@ use Rattle.bitvec_segments.specs.Segments.{loaded}
 
 pub loaded-fits : (big high : Bool) (b s : ℕ) (at : ℕ → ℕ → ℕ) (xs : List ℕ) (window : Window) → HasWindow b xs window → window.len ≤ 64 → loaded big high b s (list_in b at xs window) < 2 ^ 64
 loaded-fits big high b s at xs window has most =
-    let below = rw (length-list b at xs window has) at (loaded-below big high b s (list_in b at xs window)) in
+    let below = rw (length-list at has) at (loaded-below big high b s (list_in b at xs window)) in
     let order : 2 ^ window.len ≤ 2 ^ 64 = pow_mono most in
     omega (arith, below)

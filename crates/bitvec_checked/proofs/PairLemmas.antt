@@ -111,7 +111,7 @@ ones-more at permutes list from to v ones order inside small held before =
 pub ones-most : (list : List Bool) (to : ℕ) → to ≤ length list → count_by (λ (bit : Bool). bit) (slice_range list 0 to) ≤ length list
 ones-most list to inside =
     let some = ones-among list 0 to (omega arith) inside in
-    let all = ones_within list (length list) (count_by (λ (bit : Bool). bit) list) refl refl in
+    let all = ones_within list {n = length list} {ones = count_by (λ (bit : Bool). bit) list} refl refl in
     omega (arith, some, all)
 
 pub ones-start : (list : List Bool) → count_by (λ (bit : Bool). bit) (slice_range list 0 0) ≡ 0

@@ -22,36 +22,36 @@ use Rattle.bitvec_combine.proofs.StretchActs.{index-same, skip-some}
 
 -- all whole elements of the second, where these are all bits
 pub elements-all : {C S : Type 0} {b : ℕ} {xs : List ℕ} (Done : (ℕ → ℕ → ℕ) → C → C → Window → List Bool → S → S → Type 0)
-    → {at : ℕ → ℕ → ℕ} {c d : C} {ys : List ℕ} {s t : S} (left right : Window) → 0 < b → HasMet b xs ys left right → left.start % b ≡ 0 → right.len / b * b ≡ right.len
+    → {at : ℕ → ℕ → ℕ} {c d : C} {ys : List ℕ} {s t : S} {left right : Window} → 0 < b → HasMet b xs ys left right → left.start % b ≡ 0 → right.len / b * b ≡ right.len
     → Done at c d (elements_window b (left.start / b) (right.len / b)) (list_in b at ys (elements_window_from b (right.start / b) (right.start % b) (right.len / b))) s t
     → Done at c d left (bits_beside b at ys left right) s t
-elements-all {b = b} Done {at} {ys = ys} left right some met edge full done =
+elements-all {b = b} Done {at} {ys = ys} {left} {right} some met edge full done =
     let place = div-add-mod' left.start b in
     let source = div-add-mod' right.start b in
     let end : left.start + right.len ≡ (left.start / b + right.len / b) * b + 0 = omega arith in
     let last : (left.start + right.len) % b ≡ 0 = rw end (mod-mul-add (left.start / b + right.len / b) b 0 some) in
     let shorter = rw last at met.inside in
     let same : left.len ≡ right.len = grind arith in
-    let long = length-list b at ys right met.beside in
-    rw (padded-all left.len (list_in b at ys right) (omega arith))
+    let long = length-list at met.beside in
+    rw (padded-all {b = left.len} {list = list_in b at ys right} (omega arith))
     (rw (window-same (elements_window b (left.start / b) (right.len / b)) left (omega arith) (omega arith), window-same (elements_window_from b (right.start / b) (right.start % b) (right.len / b)) right (omega arith) (omega arith)) at done)
 
 -- the bits before a place and behind it
 pub beside-join : (b : ℕ) (at : ℕ → ℕ → ℕ) (ys : List ℕ) (first rest right : Window) (n m : ℕ) → HasWindow b ys right → first.start ≡ right.start → rest.start ≡ first.start + first.len
     → right.len ≡ first.len + rest.len → n ≡ first.len + m → list_in b at ys first ++ padded m (list_in b at ys rest) ≡ padded n (list_in b at ys right)
 beside-join b at ys first rest right n m has start next len sum =
-    padded-join n first.len m _ _ sum (length-list b at ys first (HasWindow-part b ys right first has (omega arith) (omega arith))) ∙ ap (padded n) (list-join b at ys first rest right has start next len)
+    padded-join m _ _ sum (length-list at (HasWindow-part first has (omega arith) (omega arith))) ∙ ap (padded n) (list-join at first rest has start next len)
 
 -- where the act stops behind the first bits, all are done
 pub beside-stop : {C S : Type 0} {b : ℕ} (numbers : C → List ℕ) (Done : (ℕ → ℕ → ℕ) → C → C → Window → List Bool → S → S → Type 0) {stopped : S → Bool}
     → ((at : ℕ → ℕ → ℕ) (c d : C) (whole first : Window) (list other : List Bool) (s t : S)
     → HasWindow b (numbers c) whole → first.start ≡ whole.start → whole.len ≡ first.len + length other → stopped t ≡ true → Done at c d first list s t → Done at c d whole (list ++ other) s t)
-    → {at : ℕ → ℕ → ℕ} {c d : C} {ys : List ℕ} {s t : S} (left right first part : Window) → HasMet b (numbers c) ys left right
+    → {at : ℕ → ℕ → ℕ} {c d : C} {ys : List ℕ} {s t : S} {left right first : Window} (part : Window) → HasMet b (numbers c) ys left right
     → first.start ≡ left.start → part.start ≡ right.start → part.len ≡ first.len → part.len ≤ right.len → stopped t ≡ true
     → Done at c d first (list_in b at ys part) s t → Done at c d left (bits_beside b at ys left right) s t
-beside-stop {b = b} numbers Done stop {at} {c} {d} {ys} {s} {t} left right first part met place source long fits ends done =
+beside-stop {b = b} numbers Done stop {at} {c} {d} {ys} {s} {t} {left} {right} {first} part met place source long fits ends done =
     let rest : Window = record { start = part.start + part.len; len = right.len - part.len } in
-    let behind = length-list b at ys rest (HasWindow-part b ys right rest met.beside (omega arith) (omega arith)) in
+    let behind = length-list at (HasWindow-part rest met.beside (omega arith) (omega arith)) in
     rw (sym (beside-join b at ys part rest right left.len (left.len - first.len) met.beside source refl (omega arith) (omega arith)))
     (stop at c d left first _ _ s t met.window place (omega (arith, length-padded (left.len - first.len) (list_in b at ys rest) (omega arith))) ends done)
 
@@ -61,14 +61,14 @@ pub head-window : (b w t : ℕ) (to : Window) (head : Part) → t ≡ head.to - 
 head-window b w t to head long is width = window-same (part_window b head) (record { start = to.start; len = t }) (rw (is, width) (first-place b to)) (sym long)
 
 -- what was done with it, where the second window goes on behind it
-pub head-done : {C S : Type 0} (Done : (ℕ → ℕ → ℕ) → C → C → Window → List Bool → S → S → Type 0) {at : ℕ → ℕ → ℕ} {c d : C} {ys : List ℕ} {s u : S} (b w t : ℕ) (to from met : Window) (head : Part)
+pub head-done : {C S : Type 0} (Done : (ℕ → ℕ → ℕ) → C → C → Window → List Bool → S → S → Type 0) {at : ℕ → ℕ → ℕ} {c d : C} {ys : List ℕ} {s u : S} {b w t : ℕ} (to : Window) {from met : Window} {head : Part}
     → t ≡ head.to - head.from → head ≡ first_part_of w to → w ≡ b → HasWindow b ys from → t ≤ from.len → met ≡ window_until (from.len - min t from.len) from
     → Done at c d (part_window b head) (padded (head.to - head.from) (list_in b at ys met)) s u
     → Done at c d (record { start = to.start; len = t }) (list_in b at ys (record { start = from.start; len = t })) s u
-head-done Done {at} {ys = ys} b w t to from met head long is width has fits taken done =
+head-done Done {at} {ys = ys} {b} {w} {t} to {from} {met} {head} long is width has fits taken done =
     let part : Window = record { start = from.start; len = t } in
     let whole : met ≡ part = taken ∙ window-same _ part refl (omega arith) in
-    rw (head-window b w t to head long is width, ← long, whole, padded-all t _ (length-list b at ys part (HasWindow-part b ys from part has (omega arith) (omega arith)))) at done
+    rw (head-window b w t to head long is width, ← long, whole, padded-all (length-list at (HasWindow-part part has (omega arith) (omega arith)))) at done
 
 -- the second window behind it begins at the edge, too, or doesn't
 pub rest-phases : (b s r t n : ℕ) (equal : Bool) → 0 < b → t ≡ min n (b - s % b) → t ≢ n → (s % b == r % b) ≡ equal → (0 == (r + t) % b) ≡ equal

@@ -22,9 +22,9 @@ stretch-part {b} {xs} {now} {ys} {stretch} m k has long fits carried =
     let order = mul-le-mul_left b fits in
     record {
       span = record {
-        window = HasWindow-kept b xs now (elements_window b (stretch.first + m) k)
-            (HasWindow-part b xs (elements_window b stretch.first stretch.count) (elements_window b (stretch.first + m) k) has.span.window (omega arith) (omega arith)) long;
-        beside = HasWindow-part b ys (elements_window_from b stretch.source stretch.skip stretch.count) (elements_window_from b (stretch.source + m) stretch.skip k) has.span.beside (omega arith) (omega arith);
+        window = HasWindow-kept now
+            (HasWindow-part (elements_window b (stretch.first + m) k) has.span.window (omega arith) (omega arith)) long;
+        beside = HasWindow-part (elements_window_from b (stretch.source + m) stretch.skip k) has.span.beside (omega arith) (omega arith);
         lengths = refl;
       };
       bound = has.bound;
@@ -33,16 +33,16 @@ stretch-part {b} {xs} {now} {ys} {stretch} m k has long fits carried =
     }
 
 -- a place in a memory, and one in the other, as numbers of a word
-word-place : (b : ℕ) (xs : List ℕ) (window : Window) (e : ℕ) → IsWidth b → HasWindow b xs window → e * b ≤ window.start + window.len → e < 2 ^ 64
-word-place b xs window e width has most =
+word-place : {b : ℕ} {xs : List ℕ} {window : Window} (e : ℕ) → IsWidth b → HasWindow b xs window → e * b ≤ window.start + window.len → e < 2 ^ 64
+word-place {b} e width has most =
     let some = mul-le-mul_left e (width_some b width) in
     omega arith
 
 pub first-word : {b : ℕ} {xs ys : List ℕ} {stretch : Stretch} {equal : Bool} {carry : ℕ} (m : ℕ) → IsWidth b → HasStretch b xs ys stretch equal carry → m ≤ stretch.count → stretch.first + m < 2 ^ 64
-first-word {b} m width has most = let order = mul-le-mul_left b most in word-place b _ _ _ width has.span.window (omega arith)
+first-word {b} m width has most = let order = mul-le-mul_left b most in word-place _ width has.span.window (omega arith)
 
 pub source-word : {b : ℕ} {xs ys : List ℕ} {stretch : Stretch} {equal : Bool} {carry : ℕ} (m : ℕ) → IsWidth b → HasStretch b xs ys stretch equal carry → m ≤ stretch.count → stretch.source + m < 2 ^ 64
-source-word {b} m width has most = let order = mul-le-mul_left b most in word-place b _ _ _ width has.span.beside (omega arith)
+source-word {b} m width has most = let order = mul-le-mul_left b most in word-place _ width has.span.beside (omega arith)
 
 pub source-inside : {b : ℕ} {xs ys : List ℕ} {stretch : Stretch} {equal : Bool} {carry : ℕ} (m : ℕ) → HasStretch b xs ys stretch equal carry → m < stretch.count → stretch.source + m < length ys
 source-inside {b} {ys = ys} {stretch} m has more =
@@ -57,7 +57,7 @@ module _ {C S : Type 0} {b : ℕ} (numbers : C → List ℕ) (Done : (ℕ → �
   stretch-none empty {at} {c} {ys} {stretch} {s = s} m has is =
       let none : m * b ≡ 0 = rw is (omega arith) in
       rw (list-empty b at ys (elements_window_from b stretch.source stretch.skip m) none)
-      (empty at c (elements_window b stretch.first m) s (HasWindow-part b (numbers c) (elements_window b stretch.first stretch.count) (elements_window b stretch.first m) has.span.window (omega arith) (omega arith)) none)
+      (empty at c (elements_window b stretch.first m) s (HasWindow-part (elements_window b stretch.first m) has.span.window (omega arith) (omega arith)) none)
 
   -- k behind m others
   pub stretch-join : ((at : ℕ → ℕ → ℕ) (c d e : C) (whole first second : Window) (list other : List Bool) (s t u : S)
@@ -70,10 +70,10 @@ module _ {C S : Type 0} {b : ℕ} (numbers : C → List ℕ) (Done : (ℕ → �
   stretch-join join {at} {c} {d} {e} {ys} {stretch} {s = s} {t} {u} m k n has sum fits before after =
       let most : m + k ≤ stretch.count = omega arith in
       let order = mul-le-mul_left b most in
-      rw (← sum) (rw (sym (list-join b at ys (elements_window_from b stretch.source stretch.skip m) (elements_window_from b (stretch.source + m) stretch.skip k) (elements_window_from b stretch.source stretch.skip (m + k))
-      (HasWindow-part b ys (elements_window_from b stretch.source stretch.skip stretch.count) (elements_window_from b stretch.source stretch.skip (m + k)) has.span.beside (omega arith) (omega arith)) refl (omega arith) (omega arith)))
+      rw (← sum) (rw (sym (list-join at (elements_window_from b stretch.source stretch.skip m) (elements_window_from b (stretch.source + m) stretch.skip k)
+      (HasWindow-part (elements_window_from b stretch.source stretch.skip (m + k)) has.span.beside (omega arith) (omega arith)) refl (omega arith) (omega arith)))
       (join at c d e (elements_window b stretch.first (m + k)) (elements_window b stretch.first m) (elements_window b (stretch.first + m) k) _ _ s t u
-      (HasWindow-part b (numbers c) (elements_window b stretch.first stretch.count) (elements_window b stretch.first (m + k)) has.span.window (omega arith) (omega arith))
+      (HasWindow-part (elements_window b stretch.first (m + k)) has.span.window (omega arith) (omega arith))
       (record { start = refl; next = omega arith; len = omega arith; edge = mul-mod_left (stretch.first + m) b }) before after))
 
   -- where the act stops, all are done
@@ -86,8 +86,8 @@ module _ {C S : Type 0} {b : ℕ} (numbers : C → List ℕ) (Done : (ℕ → �
   stretch-stop stop {at} {c} {d} {ys} {stretch} {s = s} {t} m has fits ends done =
       let order = mul-le-mul_left b fits in
       let rest : Window = record { start = stretch.source * b + stretch.skip + m * b; len = stretch.count * b - m * b } in
-      let long = length-list b at ys rest (HasWindow-part b ys (elements_window_from b stretch.source stretch.skip stretch.count) rest has.span.beside (omega arith) (omega arith)) in
-      rw (sym (list-join b at ys (elements_window_from b stretch.source stretch.skip m) rest (elements_window_from b stretch.source stretch.skip stretch.count) has.span.beside refl refl (omega arith)))
+      let long = length-list at (HasWindow-part rest has.span.beside (omega arith) (omega arith)) in
+      rw (sym (list-join at (elements_window_from b stretch.source stretch.skip m) rest has.span.beside refl refl (omega arith)))
       (stop at c d (elements_window b stretch.first stretch.count) (elements_window b stretch.first m) _ _ s t has.span.window refl (omega arith) ends done)
 
 -- an index that isn't 0

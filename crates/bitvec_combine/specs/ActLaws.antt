@@ -20,9 +20,9 @@ unfolding padded write_at
 padded-part b from to len list inside bound long = same_lists _ _ (search (rules, places)) (λ k d below. grind (arith, places))
 
 -- Zeros behind the second of two lists are zeros behind the two joined.
-pub padded-join : (k n m : ℕ) (first second : List Bool) → k ≡ n + m → length first ≡ n → first ++ padded m second ≡ padded k (first ++ second)
+pub padded-join : {k n : ℕ} (m : ℕ) (first second : List Bool) → k ≡ n + m → length first ≡ n → first ++ padded m second ≡ padded k (first ++ second)
 unfolding padded
-padded-join k n m first second sum long =
+padded-join {k} m first second sum long =
     let count : m - length second ≡ k - length (first ++ second) = rw length-append (omega arith) in
     sym (append_assoc first second (replicate (m - length second) false)) ∙ ap (λ (z : ℕ). (first ++ second) ++ replicate z false) count
 
@@ -39,9 +39,9 @@ spans-fit i k count is = rw is (div-mul-le_self count k)
 -- ---- two windows, the second of which may end before the first
 
 -- Two windows that met still meet after the bits that the first one has in its first element, where more bits follow.
-pub met-rest : (b : ℕ) (xs now ys : List ℕ) (left right : Window) (t : ℕ) → 0 < b → HasMet b xs ys left right → length now ≡ length xs → t ≡ min left.len (b - left.start % b) → t ≢ left.len
+pub met-rest : {b : ℕ} {xs now ys : List ℕ} {left right : Window} {t : ℕ} → 0 < b → HasMet b xs ys left right → length now ≡ length xs → t ≡ min left.len (b - left.start % b) → t ≢ left.len
     → HasMet b now ys (window_after t left) (window_after t right)
-met-rest b xs now ys left right t some met kept part more =
+met-rest {b} {xs} {now} {ys} {left} {right} {t} some met kept part more =
     let place = div-add-mod' left.start b in
     let head = mod_below left.start b some in
     let behind : t < right.len =
@@ -61,8 +61,8 @@ met-rest b xs now ys left right t some met kept part more =
     (cases_lt t right.len) in
     let end : left.start + t + (right.len - t) ≡ left.start + right.len = omega arith in
     record {
-      window = HasWindow-part b now left (window_after t left) (HasWindow-kept b xs now left met.window kept) (omega arith) (omega arith);
-      beside = HasWindow-part b ys right (window_after t right) met.beside (omega arith) (omega arith);
+      window = HasWindow-part (window_after t left) (HasWindow-kept now met.window kept) (omega arith) (omega arith);
+      beside = HasWindow-part (window_after t right) met.beside (omega arith) (omega arith);
       some = omega arith;
       lengths = omega arith;
       inside = λ less. rw end (met.inside (omega arith));

@@ -46,9 +46,9 @@ touched-met b s m n words some fits = let fewer = touched-less b s m n some fits
 pub ruleset passed = (touched-met, touched-passed)
 
 -- Combining with bits padded with zeros is combining with the window beside, since a bit past its end counts as 0.
-pub combines-beside : (b : ℕ) (at : ℕ → ℕ → ℕ) (op : BitOp) (old new ys : List ℕ) (to from : Window) → Writes b at old new to (combined (operator op) (list_in b at old to) (bits_beside b at ys to from)) → Combines b at op old new ys to from
+pub combines-beside : {b : ℕ} {at : ℕ → ℕ → ℕ} (op : BitOp) {old new : List ℕ} (ys : List ℕ) {to : Window} (from : Window) → Writes b at old new to (combined (operator op) (list_in b at old to) (bits_beside b at ys to from)) → Combines b at op old new ys to from
 unfolding padded
-combines-beside b at op old new ys to from writes = Writes-is b at _ _ to _ _ writes (combined-padded (operator op) _ (list_in b at ys from) _)
+combines-beside {b} {at} op ys {to} from writes = Writes-is writes (combined-padded (operator op) _ (list_in b at ys from) _)
 
 -- ---- what the act did
 
@@ -56,10 +56,10 @@ module _ {E C : Type 0} (access : Access C E) (b : ℕ) (at : ℕ → ℕ → �
   -- Combining an empty window with no bits changes nothing.
   pub combines-empty : (c : C) (window : Window) (op : BitOp) → HasWindow b (access.numbers c) window → window.len ≡ 0 → CombinesBits access b at c c window [] op op
   combines-empty c window op has none =
-      let long = length-list b at (access.numbers c) window has in
+      let long = length-list at has in
       let count : touched_count b window.start window.len ≡ 0 = ap (touched_count b window.start) none ∙ touched-none b window.start in
       record {
-        writes = Writes-is b at _ _ window [] _ (Writes-empty b at _ _ window has none refl) (combined-is (operator op) _ [] [] (omega arith) (λ k inside. absurd (omega arith)));
+        writes = Writes-is (Writes-empty at _ has none refl) (combined-is (operator op) _ [] [] (omega arith) (λ k inside. absurd (omega arith)));
         long = sym none;
         same = refl;
         cost = record { borrow = refl; loads = omega arith; stores = omega arith };
@@ -75,7 +75,7 @@ module _ {E C : Type 0} (access : Access C E) (b : ℕ) (at : ℕ → ℕ → �
       let count = touched-edge b first.start first.len second.len some (rw (← next) cut.edge) in
       let all : touched_count b whole.start whole.len ≡ touched_count b first.start first.len + touched_count b second.start second.len = rw (len, ← start, next) count in
       record {
-        writes = Writes-both b at (operator s) _ _ _ first second whole list other (list ++ other) has start next len
+        writes = Writes-both at (operator s) first second list other (list ++ other) has start next len
             (λ (x y : List Bool) (x_long : length x ≡ first.len) (y_long : length y ≡ second.len). combined-append (operator s) x y list other (omega arith)) before.writes (rw before.same at after.writes);
         long = omega (arith, length-append list other);
         same = after.same ∙ before.same;
@@ -97,7 +97,7 @@ module _ {E C : Type 0} (access : Access C E) (b : ℕ) (at : ℕ → ℕ → �
       let one : Window = record { start = e * b; len = b } in
       let bits : Writes b at xs (access.numbers d) one (element_bits b at w) = rw now (record { bits = set-element b at xs e w some inside; long = length-element_bits b at w; elements = length-set xs e w }) in
       combines-one c d e 0 one (element_bits b at v) op some (omega arith) some (omega arith) (length-element_bits b at v)
-      (Writes-is b at xs _ one _ _ bits (made ∙ ap (λ (l : List Bool). combined (operator op) l (element_bits b at v)) (sym (list-whole b at xs e inside)))) cost
+      (Writes-is bits (made ∙ ap (λ (l : List Bool). combined (operator op) l (element_bits b at v)) (sym (list-whole b at xs e inside)))) cost
 
   -- Combining a part of an element with one load and one store combines the part's window.
   pub combines-part : (c d : C) (part : Part) (v u w : ℕ) (op : BitOp) → 0 < b → HasPart b (access.numbers c) part → part.from < part.to
@@ -110,7 +110,7 @@ module _ {E C : Type 0} (access : Access C E) (b : ℕ) (at : ℕ → ℕ → �
       let long = length-element_bits b at (slice_index xs part.element) in
       let bound = has.bound in
       combines-one c d part.element part.from (part_window b part) _ op some refl (omega arith) (omega arith) (length-part b at v part.from part.to bound)
-      (rw now (Writes-is b at xs _ _ _ _ (part-stored b at xs part u w some has made)
+      (rw now (Writes-is (part-stored at u w some has made)
       (ap (λ (l : List Bool). slice_range l part.from part.to) new
       ∙ combined-range (operator op) old (element_bits b at v) part.from part.to has.order (omega arith)
-      ∙ ap (λ (l : List Bool). combined (operator op) l (slice_range (element_bits b at v) part.from part.to)) (sym (list-part b at xs part has))))) cost
+      ∙ ap (λ (l : List Bool). combined (operator op) l (slice_range (element_bits b at v) part.from part.to)) (sym (list-part at has))))) cost

@@ -24,12 +24,12 @@ use Rattle.bitvec_combine.specs.Acts.{IsCut, bits_beside}
 use Rattle.bitvec_combine.specs.Sides.{FindsDifference}
 
 -- bits compared by two windows, after others
-then_joined : (b : ℕ) (at : ℕ → ℕ → ℕ) (xs : List ℕ) (whole first second : Window) (list other : List Bool) (before : Bool) → HasWindow b xs whole → first.start ≡ whole.start → second.start ≡ first.start + first.len → whole.len ≡ first.len + second.len
+then_joined : {b : ℕ} (at : ℕ → ℕ → ℕ) {xs : List ℕ} {whole : Window} (first second : Window) (list other : List Bool) (before : Bool) → HasWindow b xs whole → first.start ≡ whole.start → second.start ≡ first.start + first.len → whole.len ≡ first.len + second.len
     → length list ≡ first.len → (before && same_bits (list_in b at xs whole) (list ++ other)) ≡ ((before && same_bits (list_in b at xs first) list) && same_bits (list_in b at xs second) other)
-then_joined b at xs whole first second list other false has start next len long = refl
-then_joined b at xs whole first second list other true has start next len long =
-    rw (← list-join b at xs first second whole has start next len)
-    (same-joined _ _ _ _ (length-list b at xs first (HasWindow-part b xs whole first has (omega arith) (omega arith)) ∙ sym long))
+then_joined at first second list other false has start next len long = refl
+then_joined {b} at {xs} {whole} first second list other true has start next len long =
+    rw (← list-join at first second has start next len)
+    (same-joined _ _ _ _ (length-list at (HasWindow-part first has (omega arith) (omega arith)) ∙ sym long))
 
 -- the elements that the parts of a window touch
 touched-cut : (b : ℕ) (whole first second : Window) → IsWidth b → IsCut b whole first second
@@ -56,7 +56,7 @@ module _ {E C : Type 0} (access : Access C E) (b : ℕ) (at : ℕ → ℕ → �
       record {
         value =
             rw now at after.value ∙ ap (λ (m : Bool). m && same_bits (list_in b at (access.numbers c) second) other) before.value
-            ∙ sym (then_joined b at (access.numbers c) whole first second list other (s == 0) has cut.start cut.next cut.len before.long);
+            ∙ sym (then_joined at first second list other (s == 0) has cut.start cut.next cut.len before.long);
         long = simp length-append (omega arith);
         reads = record { numbers = after.reads.numbers ∙ now; borrow = after.reads.borrow ∙ before.reads.borrow; loads = omega arith; stores = after.reads.stores ∙ before.reads.stores };
       }
@@ -71,7 +71,7 @@ module _ {E C : Type 0} (access : Access C E) (b : ℕ) (at : ℕ → ℕ → �
       record {
         value =
             apart ∙ ap (λ (m : Bool). m && same_bits (list_in b at (access.numbers c) rest) other) (sym apart ∙ before.value)
-            ∙ sym (then_joined b at (access.numbers c) whole first rest list other (s == 0) has start refl len before.long);
+            ∙ sym (then_joined at first rest list other (s == 0) has start refl len before.long);
         long = simp length-append (omega arith);
         reads = rw (← start) (record { numbers = before.reads.numbers; borrow = before.reads.borrow; loads = omega arith; stores = before.reads.stores });
       }
@@ -91,17 +91,17 @@ module _ {E C : Type 0} (access : Access C E) (b : ℕ) (at : ℕ → ℕ → �
   pub found_same : (old new : C) (ys : List ℕ) (left right : Window) (result : Bool) (before found : ℕ) → HasSpan b (access.numbers old) ys left right → FindsDifference access b at old new left (bits_beside b at ys left right) before found
       → before ≡ 0 → result ≡ (found == 0) → result ≡ same_bits (list_in b at (access.numbers old) left) (list_in b at ys right)
   found_same old new ys left right result before found span done none is =
-      is ∙ rw (none, padded-all left.len (list_in b at ys right) (length-list b at ys right span.beside ∙ sym span.lengths)) at done.value
+      is ∙ rw (none, padded-all {list = list_in b at ys right} (length-list at span.beside ∙ sym span.lengths)) at done.value
 
 -- ---- whole windows
 
 -- A window of `n` bits touches at most as many elements as a comparison of equal lengths may load.
-pub equal_enough : (b s n m : ℕ) → IsWidth b → n ≡ m → touched_count b s n ≤ equal_loads b true n m
-equal_enough b s n m width same = rw (← same) (let most = touched_read b true s n (width_some b width) in grind (arith, common_steps))
+pub equal_enough : (b s : ℕ) {n m : ℕ} → IsWidth b → n ≡ m → touched_count b s n ≤ equal_loads b true n m
+equal_enough b s {n} width same = rw (← same) (let most = touched_read b true s n (width_some b width) in grind (arith, common_steps))
 
 -- The window beside, of `m` bits and the same length, touches at most as many elements as a comparison may load.
-pub equal_enough_right : (b s n m : ℕ) → IsWidth b → n ≡ m → touched_count b s m ≤ equal_loads b true n m
-equal_enough_right b s n m width same = rw same (equal_enough b s m m width refl)
+pub equal_enough_right : (b s : ℕ) {n m : ℕ} → IsWidth b → n ≡ m → touched_count b s m ≤ equal_loads b true n m
+equal_enough_right b s {n} {m} width same = rw same (equal_enough b s {n = m} {m = m} width refl)
 
 -- These laws bound the loads of a comparison, and tell it of an empty list and of lists of different lengths.
 pub ruleset compared = (equal_enough, equal_enough_right, length-list, same-empty, same-unequal)

@@ -24,7 +24,7 @@ use Rattle.bitvec_words.specs.Moves.{Copies}
 -- Putting no bits in an empty window changes nothing.
 pub Puts-none : {E C : Type 0} (access : Access C E) (b : ℕ) (at : ℕ → ℕ → ℕ) (c : C) (window : Window) → HasWindow b (access.numbers c) window → window.len ≡ 0 → PutsBits access b at c c window []
 Puts-none access b at c window has none = record {
-  writes = Writes-empty _ _ _ _ window has none refl;
+  writes = Writes-empty _ _ has none refl;
   cost = search rules;
 }
 
@@ -32,7 +32,7 @@ Puts-none access b at c window has none = record {
 pub Puts-join : {E C : Type 0} (access : Access C E) (b : ℕ) (at : ℕ → ℕ → ℕ) (c d e : C) (whole first second : Window) (list other : List Bool) → IsWidth b → HasWindow b (access.numbers c) whole → IsCut b whole first second
     → PutsBits access b at c d first list → PutsBits access b at d e second other → PutsBits access b at c e whole (list ++ other)
 Puts-join access b at c d e whole first second list other width has cut before after = record {
-  writes = Writes-join _ _ _ _ _ first second whole list other has cut.start cut.next cut.len before.writes after.writes;
+  writes = Writes-join has cut.start cut.next cut.len before.writes after.writes;
   cost = rw cut.len (grind (arith, touched-edge b whole.start first.len second.len (width_some b width)));
 }
 
@@ -53,4 +53,4 @@ pub ruleset stored = (part-edges, set-element, length-element_bits, length-set, 
 pub Puts-beside : {E C : Type 0} {access : Access C E} {b : ℕ} {at : ℕ → ℕ → ℕ} {c d : C} {ys : List ℕ} {left right other : Window} → HasSpan b (access.numbers c) ys left right → other ≡ right
     → PutsBits access b at c d left (bits_beside b at ys left other) → Copies b at (access.numbers c) (access.numbers d) left ys right
 Puts-beside {E} {C} {access} {b} {at} {c} {d} {ys} {left} {right} span is puts =
-    Writes-is _ _ _ _ _ _ _ puts.writes (rw (is, span.lengths) (padded-all right.len _ (length-list b at ys right span.beside)))
+    Writes-is puts.writes (rw (is, span.lengths) (padded-all (length-list at span.beside)))

@@ -19,8 +19,8 @@ module _ {E C : Type 0} (access : Access C E) where
       let stores = answers.reads.stores in
       record {
         reply = answers.reply;
-        writes = Writes-is b at (access.numbers old) (access.numbers new) window _ _
-            (Writes-nothing b at (access.numbers old) (access.numbers new) window has answers.reads.numbers)
+        writes = Writes-is
+            (Writes-nothing at (access.numbers new) has answers.reads.numbers)
             (sym answers.list);
         cost = record { borrow = answers.reads.borrow; loads = answers.reads.loads; stores = omega arith };
       }
@@ -29,19 +29,19 @@ module _ {E C : Type 0} (access : Access C E) where
       → Follows access b at words row (window_range window from to) old new result → Follows access b at words (on_range from to row) window old new result
   Follows-range b at words row window from to old new result has order bound part =
       let list = list_in b at (access.numbers old) window in
-      let same = list-range b at (access.numbers old) window from to has order bound in
+      let same = list-range at from to has order bound in
       record {
         reply = part.reply ∙ ap row.reply same;
-        writes = Writes-is b at (access.numbers old) (access.numbers new) window _ _
-            (Writes-range b at (access.numbers old) (access.numbers new) window from to _ has order bound part.writes)
+        writes = Writes-is
+            (Writes-range from to has order bound part.writes)
             (ap (λ (l : List Bool). write_at list from (row.list l)) same);
         cost = part.cost;
       }
 
 -- what a window of the list that `source` holds has
-pub list-inside : (b : ℕ) (at : ℕ → ℕ → ℕ) (xs : List ℕ) (source window : Window) → HasWindow b xs source → IsWithin window source.len → list_in b at xs (window_inside source window) ≡ window_of (list_in b at xs source) window
+pub list-inside : {b : ℕ} (at : ℕ → ℕ → ℕ) {xs : List ℕ} {source window : Window} → HasWindow b xs source → IsWithin window source.len → list_in b at xs (window_inside source window) ≡ window_of (list_in b at xs source) window
 unfolding window_of
-list-inside b at xs source window has within =
+list-inside {b} at {xs} {source} {window} has within =
     let start = within.start in
     let len = within.len in
-    part-of_window (memory_bits b at xs) source (window_inside source window) window.start (within-list b at xs source has) refl (omega arith)
+    part-of_window (memory_bits b at xs) source (window_inside source window) window.start (within-list at has) refl (omega arith)

@@ -29,12 +29,12 @@ module _ {F : Type 0} (R : F → ℕ → Bool → F → Type 0) where
 
   pub answered-none : (f : F) (b : ℕ) (at : ℕ → ℕ → ℕ) (old now : List ℕ) (window : Window) → HasWindow b old window → now ≡ old → Answered f f b at old now window 0
   answered-none f b at old now window has same =
-      let within = within-list b at old window has in
+      let within = within-list at has in
       record { new = []; calls = refl; long = refl; bits = ap (memory_bits b at) same ∙ sym (write_at-nil (memory_bits b at old) window.start within.start); elements = ap length same }
 
   module _ (f last : F) (b : ℕ) (at : ℕ → ℕ → ℕ) (old now : List ℕ) (window : Window) (i : ℕ) (has : HasWindow b old window) (done : Answered f last b at old now window i) where
     pub answered-window : HasWindow b now window
-    answered-window = HasWindow-kept b old now window has done.elements
+    answered-window = HasWindow-kept now has done.elements
 
     module _ (h : i < window.len) where
       pub answered-next : (bit : Bool) (next : F) (after : List ℕ) → R last i bit next → Writes b at now after window (slice_set (list_in b at now window) i bit) → Answered f next b at old after window (i + 1)
@@ -44,7 +44,7 @@ module _ {F : Type 0} (R : F → ℕ → Bool → F → Type 0) where
         long = omega (arith, done.long, length-append done.new (bit ∷ []));
         bits = wrote.bits
             ∙ ap (λ (m : List Bool). write_window m window (slice_set (window_of m window) i bit)) done.bits
-            ∙ window-push (memory_bits b at old) window done.new i bit (within-list b at old window has) done.long h;
+            ∙ window-push (memory_bits b at old) done.new bit (within-list at has) done.long h;
         elements = wrote.elements ∙ done.elements;
       }
 
@@ -53,7 +53,7 @@ module _ {F : Type 0} (R : F → ℕ → Bool → F → Type 0) where
       answered-shown bit read =
           read
           ∙ ap (λ (m : List Bool). slice_index_or (window_of m window) i false) done.bits
-          ∙ window-rest (memory_bits b at old) window done.new i false (within-list b at old window has) (omega (arith, done.long)) h
+          ∙ window-rest (memory_bits b at old) window done.new i false (within-list at has) (omega (arith, done.long)) h
 
   -- what is left of the calls that are allowed
   abbrev pub MayGoOn : (F → ℕ → Type 0) → ℕ → ℕ → F → Type 0

@@ -13,9 +13,9 @@ use Rattle.bitvec_domain.specs.Domains.{part_in_if}
 use Rattle.bitvec_domain.specs.Parts.{WritesPart, partial_at}
 use Rattle.bitvec_domain.specs.declared.part_mut.PartialElementMut.{PartialElementMut}
 
-pub writes_part : {T O : Type 0} {t : Store T} {o : Order O} (p q : PartialElementMut T O t o) (new : List Bool) → q.head ≡ p.head → q.tail ≡ p.tail → q.element.ghost_name ≡ p.element.ghost_name → length new ≡ p.tail - p.head
+pub writes_part : {T O : Type 0} {t : Store T} {o : Order O} (p : PartialElementMut T O t o) {q : PartialElementMut T O t o} {new : List Bool} → q.head ≡ p.head → q.tail ≡ p.tail → q.element.ghost_name ≡ p.element.ghost_name → length new ≡ p.tail - p.head
     → element_bits t.BITS o.at (t.value q.element.now) ≡ write_at (element_bits t.BITS o.at (t.value p.element.now)) p.head new → WritesPart p q new
-writes_part {t = t} {o = o} p q new head tail name long wrote =
+writes_part {t = t} {o = o} p {q} {new} head tail name long wrote =
     let ordered = p.ordered in
     let inside = p.inside in
     let old = element_bits t.BITS o.at (t.value p.element.now) in

@@ -17,9 +17,9 @@ module _ {T O : Type 0} {t : Store T} {o : Order O} where
   writes_bit r s new place name wrote =
       let old = map t.value r.elements.now in
       let now = map t.value s.elements.now in
-      let one = Writes-one t.BITS o.at old now r.place new r.window wrote in
+      let one = Writes-one r.place new r.window wrote in
       record {
-        bit = rw place (sym (get-one (memory_bits t.BITS o.at now) r.place false) ∙ ap (λ (l : List Bool). slice_index_or l 0 false) (Writes-holds t.BITS o.at old now (bit_window r.place) (new ∷ []) r.window one));
+        bit = rw place (sym (get-one (memory_bits t.BITS o.at now) r.place false) ∙ ap (λ (l : List Bool). slice_index_or l 0 false) (Writes-holds r.window one));
         writes = one;
         place = place;
         name = name;

@@ -20,7 +20,7 @@ with_range-keeps xs ws start end order bound =
     put-keeps xs (refill (length mid) mid ws) start end order bound (sym (length_refill (length mid) mid ws refl) ∙ omega (arith, length-take (end - start) (drop start xs), length-drop start xs))
 
 -- A slice that ends as such a list keeps its length and its values outside the range.
-pub refilled-keeps : {X : Type 0} (xs ws : List X) (start end : ℕ) → start ≤ end → end ≤ length xs → KeepsOutside start end xs (refill (length xs) xs (with_range xs start end ws))
-refilled-keeps {X} xs ws start end order bound =
+pub refilled-keeps : {X : Type 0} (xs ws : List X) {start end : ℕ} → start ≤ end → end ≤ length xs → KeepsOutside start end xs (refill (length xs) xs (with_range xs start end ws))
+refilled-keeps {X} xs ws {start} {end} order bound =
     let kept = with_range-keeps xs ws start end order bound in
     subst (λ (ys : List X). KeepsOutside start end xs ys) (sym (take_at (with_range xs start end ws) (drop (length (with_range xs start end ws)) xs) (length xs) kept.length)) kept

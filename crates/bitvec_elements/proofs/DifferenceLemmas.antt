@@ -128,21 +128,21 @@ module _ (xs ys : List Bool) (from to : ℕ) (order : from ≤ to) (xs-fits : to
 module _ (b d : ℕ) (at other way : ℕ → ℕ → ℕ) (xs ys : List ℕ) (window right_window : Window) (has : HasWindow b xs window) (right_has : HasWindow d ys right_window) (from to : ℕ) (order : from ≤ to) (bound : to ≤ min window.len right_window.len) (fits : to ≤ from + 64)
     (before : SameBelow (list_in b at xs window) (list_in d other ys right_window) from) (v w : ℕ) (left : element_bits 64 way v ≡ padded 64 (list_in b at xs (window_range window from to))) (right : element_bits 64 way w ≡ padded 64 (list_in d other ys (window_range right_window from to))) where
   left_part : element_bits 64 way v ≡ padded 64 (slice_range (list_in b at xs window) from to)
-  left_part = left ∙ ap (padded 64) (list-range b at xs window from to has order (omega arith))
+  left_part = left ∙ ap (padded 64) (list-range at from to has order (omega arith))
 
   right_part : element_bits 64 way w ≡ padded 64 (slice_range (list_in d other ys right_window) from to)
-  right_part = right ∙ ap (padded 64) (list-range d other ys right_window from to right_has order (omega arith))
+  right_part = right ∙ ap (padded 64) (list-range other from to right_has order (omega arith))
 
   pub windows-same : first_place true (element_bits 64 way (bit_xor v w)) ≡ None → SameBelow (list_in b at xs window) (list_in d other ys right_window) to
   windows-same none =
-      let long = length-list b at xs window has in
-      let right_long = length-list d other ys right_window right_has in
+      let long = length-list at has in
+      let right_long = length-list other right_has in
       stretch-same _ _ from to order (omega arith) (omega arith) before way v w fits left_part right_part none
 
   pub windows-apart : (i : ℕ) → first_place true (element_bits 64 way (bit_xor v w)) ≡ Some i → DiffersFrom (list_in b at xs window) (list_in d other ys right_window) (from + i)
   windows-apart i found =
-      let long = length-list b at xs window has in
-      let right_long = length-list d other ys right_window right_has in
+      let long = length-list at has in
+      let right_long = length-list other right_has in
       stretch-apart _ _ from to order (omega arith) (omega arith) before way v w fits left_part right_part i found
 
 -- ---- equality and order by it
@@ -165,13 +165,13 @@ told false true apart = refl
 told true false apart = refl
 told true true apart = absurd (apart refl)
 
-pub common-differ : (xs ys : List Bool) (n : ℕ) (x y : Bool) → DiffersFrom xs ys n → n < min (length xs) (length ys) → x ≡ slice_index_or xs n false → y ≡ slice_index_or ys n false → bool_cmp x y ≡ slice_cmp bool_cmp xs ys
-common-differ xs ys n x y from more left right =
-    order-differ xs ys n x y (omega arith) (omega arith) from.same left right (told x y (λ e. from.differs more (sym left ∙ e ∙ right)))
+pub common-differ : {xs ys : List Bool} {n : ℕ} {x y : Bool} → DiffersFrom xs ys n → n < min (length xs) (length ys) → x ≡ slice_index_or xs n false → y ≡ slice_index_or ys n false → bool_cmp x y ≡ slice_cmp bool_cmp xs ys
+common-differ {xs} {ys} {n} {x} {y} from more left right =
+    order-differ xs ys n (omega arith) (omega arith) from.same left right (told x y (λ e. from.differs more (sym left ∙ e ∙ right)))
 
 -- what is behind equal bits differs as far on
-pub differs-behind : (xs ys : List Bool) (from n : ℕ) → from ≤ min (length xs) (length ys) → SameBelow xs ys from → DiffersFrom (drop from xs) (drop from ys) n → DiffersFrom xs ys (from + n)
-differs-behind xs ys from n inside same behind =
+pub differs-behind : {xs ys : List Bool} (from : ℕ) {n : ℕ} → from ≤ min (length xs) (length ys) → SameBelow xs ys from → DiffersFrom (drop from xs) (drop from ys) n → DiffersFrom xs ys (from + n)
+differs-behind {xs} {ys} from {n} inside same behind =
     let most = behind.bound in
     let left = length-drop from xs in
     let right = length-drop from ys in

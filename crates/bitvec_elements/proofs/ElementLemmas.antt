@@ -22,17 +22,17 @@ use Rattle.bitvec_words.specs.WrittenLaws.{memory-write_at}
 use Rattle.bitvec_cells.specs.PutLaws.{part-numbers}
 
 -- whole elements from a window's first bit on lie in the memory
-whole-inside : (b : ℕ) (xs : List ℕ) (window : Window) (n : ℕ) → 0 < b → HasWindow b xs window → window.start % b ≡ 0 → n % b ≡ 0 → n ≤ window.len → window.start / b + n / b ≤ length xs
-whole-inside b xs window n some has edge whole short =
+whole-inside : {b : ℕ} {xs : List ℕ} {window : Window} (n : ℕ) → 0 < b → HasWindow b xs window → window.start % b ≡ 0 → n % b ≡ 0 → n ≤ window.len → window.start / b + n / b ≤ length xs
+whole-inside {b} {xs} {window} n some has edge whole short =
     let place = div-add-mod' window.start b in
     let parts = div-add-mod' n b in
-    elements-inside b xs (window.start / b) (n / b) some (HasWindow-part b xs window (elements_window b (window.start / b) (n / b)) has (omega arith) (omega arith))
+    elements-inside (window.start / b) (n / b) some (HasWindow-part (elements_window b (window.start / b) (n / b)) has (omega arith) (omega arith))
 
 -- whole elements of a window hold those of another
-pub Writes-elements : (b : ℕ) (at : ℕ → ℕ → ℕ) (xs ys : List ℕ) (to from : Window) → 0 < b → HasSpan b xs ys to from → to.start % b ≡ 0 → from.start % b ≡ 0 → to.len % b ≡ 0
+pub Writes-elements : {b : ℕ} (at : ℕ → ℕ → ℕ) {xs ys : List ℕ} {to from : Window} → 0 < b → HasSpan b xs ys to from → to.start % b ≡ 0 → from.start % b ≡ 0 → to.len % b ≡ 0
     → Writes b at xs (write_at xs (to.start / b) (slice_range ys (from.start / b) (from.start / b + to.len / b))) to (list_in b at ys from)
 unfolding window_of
-Writes-elements b at xs ys to from some span edge right_edge whole =
+Writes-elements {b} at {xs} {ys} {to} {from} some span edge right_edge whole =
     let first = to.start / b in
     let source = from.start / b in
     let count = to.len / b in
@@ -41,8 +41,8 @@ Writes-elements b at xs ys to from some span edge right_edge whole =
     let parts = div-add-mod' to.len b in
     let lengths = span.lengths in
     let ends = add-mul source count b in
-    let inside = whole-inside b ys from to.len some span.beside right_edge whole (omega arith) in
-    let fits = whole-inside b xs to to.len some span.window edge whole (omega arith) in
+    let inside = whole-inside to.len some span.beside right_edge whole (omega arith) in
+    let fits = whole-inside to.len some span.window edge whole (omega arith) in
     let new = slice_range ys source (source + count) in
     let long = length-slice_range ys source (source + count) inside in
     let room : first + length new ≤ length xs = omega arith in
@@ -52,17 +52,17 @@ Writes-elements b at xs ys to from some span edge right_edge whole =
           (memory-range b at ys source (source + count) some (omega arith) inside
           ∙ range-same (memory_bits b at ys) (source * b) ((source + count) * b) from.start (from.start + from.len) (omega arith) (omega arith))
           ∙ ap (λ (s : ℕ). write_at (memory_bits b at xs) s (list_in b at ys from)) (let same : first * b ≡ to.start = omega arith in same);
-      long = length-list b at ys from span.beside ∙ sym lengths;
+      long = length-list at span.beside ∙ sym lengths;
       elements = length-write_at xs first new room;
     }
 
 -- the elements of a part copied at once
-pub elements-copied : {A : Type 0} (value : A → ℕ) (b w : ℕ) (at : ℕ → ℕ → ℕ) (left right new : List A) (to from : Window) → 0 < b → w ≡ b → HasSpan b (map value left) (map value right) to from → to.start % b ≡ 0 → from.start % b ≡ 0 → to.len % b ≡ 0
+pub elements-copied : {A : Type 0} (value : A → ℕ) {b w : ℕ} {at : ℕ → ℕ → ℕ} (left right : List A) {new : List A} {to from : Window} → 0 < b → w ≡ b → HasSpan b (map value left) (map value right) to from → to.start % b ≡ 0 → from.start % b ≡ 0 → to.len % b ≡ 0
     → new ≡ slice_range right (from.start / w) (from.start / w + to.len / w)
     → Writes b at (map value left) (map value (put_mid (to.start / w) (to.start / w + to.len / w - to.start / w) left new)) to (list_in b at (map value right) from)
-elements-copied value b w at left right new to from some same span edge right_edge whole is =
-    let wrote = Writes-elements b at (map value left) (map value right) to from some span edge right_edge whole in
-    let inside = whole-inside b (map value right) from to.len some span.beside right_edge whole (let lengths = span.lengths in omega arith) in
+elements-copied value {b} {w} {at} left right {new} {to} {from} some same span edge right_edge whole is =
+    let wrote = Writes-elements at some span edge right_edge whole in
+    let inside = whole-inside to.len some span.beside right_edge whole (let lengths = span.lengths in omega arith) in
     let ends = length-map right value in
     rw same (
     let long = ap length is ∙ ap (λ (n : ℕ). length (slice_range right (from.start / n) (from.start / n + to.len / n))) same ∙ length-slice_range right (from.start / b) (from.start / b + to.len / b) (omega arith) in
@@ -73,14 +73,14 @@ elements-copied value b w at left right new to from some same span edge right_ed
 -- ---- the bits of one element
 
 -- none
-pub none-copied : (b : ℕ) (at : ℕ → ℕ → ℕ) (xs ys : List ℕ) (to from : Window) → HasSpan b xs ys to from → to.len ≡ 0 → Writes b at xs xs to (list_in b at ys from)
-none-copied b at xs ys to from span none = Writes-none b at xs ys to from span.window none (sym span.lengths ∙ none)
+pub none-copied : {b : ℕ} {at : ℕ → ℕ → ℕ} {xs ys : List ℕ} {to from : Window} → HasSpan b xs ys to from → to.len ≡ 0 → Writes b at xs xs to (list_in b at ys from)
+none-copied {b} {at} {xs} {ys} {to} {from} span none = Writes-none at ys from span.window none (sym span.lengths ∙ none)
 
 -- those of an element that was read, stored at the same indices of another
-pub part-copied : {A : Type 0} (value : A → ℕ) (b w : ℕ) (at : ℕ → ℕ → ℕ) (xs mid : List ℕ) (right : List A) (to from : Window) (part : Part) (v : A) → 0 < b → w ≡ b → HasSpan b xs (map value right) to from → to.len ≢ 0 → to.start % b ≡ from.start % b → to.start % b + to.len ≤ b
+pub part-copied : {A : Type 0} (value : A → ℕ) {b w : ℕ} {at : ℕ → ℕ → ℕ} {xs mid : List ℕ} (right : List A) {to from : Window} {part : Part} {v : A} → 0 < b → w ≡ b → HasSpan b xs (map value right) to from → to.len ≢ 0 → to.start % b ≡ from.start % b → to.start % b + to.len ≤ b
     → part ≡ first_part_of w to → v ≡ slice_index_or right (from.start / w) v
     → Writes b at xs mid (part_window b part) (slice_range (element_bits b at (value v)) part.from part.to) → Writes b at xs mid to (list_in b at (map value right) from)
-part-copied value b w at xs mid right to from part v some same span more phases one is held writes =
+part-copied value {b} {w} {at} {xs} {mid} right {to} {from} {part} {v} some same span more phases one is held writes =
     let ys = map value right in
     let place = div-add-mod' to.start b in
     let right_place = div-add-mod' from.start b in
@@ -91,7 +91,7 @@ part-copied value b w at xs mid right to from part v some same span more phases 
     let number : value v ≡ slice_index ys (from.start / b) =
     ap value (rw same at held) ∙ sym (get_or-map value right (from.start / b) v 0 (omega (arith, length-map right value))) in
     let piece : Part = record (first_part_of b to) { element = from.start / b } in
-    let source = list-part b at ys piece (record { element = inside; order = omega arith; bound = omega arith }) in
+    let source = list-part {b = b} at {xs = ys} {part = piece} (record { element = inside; order = omega arith; bound = omega arith }) in
     let stored : Writes b at xs mid (part_window b (first_part_of b to)) (slice_range (element_bits b at (slice_index ys (from.start / b))) (first_part_of b to).from (first_part_of b to).to) = rw (is, same, number) at writes in
     Writes-same (part_window b (first_part_of b to)) to (omega arith) (omega arith)
-    (Writes-is b at xs mid (part_window b (first_part_of b to)) _ _ stored (sym (list-same b at ys (part_window b piece) from (omega arith) (omega arith) ∙ source)))
+    (Writes-is stored (sym (list-same b at ys (part_window b piece) from (omega arith) (omega arith) ∙ source)))

@@ -14,11 +14,11 @@ use Rattle.bitvec_base.specs.WritesLaws.{Writes-is, Writes-range, list-range}
 pub reversed_part : {X : Type 0} → ℕ → ℕ → List X → List X
 reversed_part from to list = write_at list from (reverse (slice_range list from to))
 
-pub Writes-reversed : (b : ℕ) (at : ℕ → ℕ → ℕ) (xs ys : List ℕ) (window : Window) (from to : ℕ) → HasWindow b xs window → from ≤ to → to ≤ window.len → Writes b at xs ys (window_range window from to) (reverse (list_in b at xs (window_range window from to)))
+pub Writes-reversed : {b : ℕ} {at : ℕ → ℕ → ℕ} {xs ys : List ℕ} {window : Window} (from to : ℕ) → HasWindow b xs window → from ≤ to → to ≤ window.len → Writes b at xs ys (window_range window from to) (reverse (list_in b at xs (window_range window from to)))
     → Writes b at xs ys window (reversed_part from to (list_in b at xs window))
 unfolding reversed_part
-Writes-reversed b at xs ys window from to has order bound writes =
-    Writes-range b at xs ys window from to _ has order bound (Writes-is b at xs ys (window_range window from to) _ _ writes (ap reverse (list-range b at xs window from to has order bound)))
+Writes-reversed {b} {at} {xs} {ys} {window} from to has order bound writes =
+    Writes-range from to has order bound (Writes-is writes (ap reverse (list-range at from to has order bound)))
 
 pub parts-rotate : {X : Type 0} (k n : ℕ) (list : List X) → n ≡ length list → k ≤ n → reverse (reversed_part k n (reversed_part 0 k list)) ≡ rotated_left k list
 unfolding reversed_part write_at

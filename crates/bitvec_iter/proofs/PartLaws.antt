@@ -29,8 +29,8 @@ use Rattle.bitvec_iter.specs.Parts.{subview}
 abbrev shows : {T : Type 0} → List Bool → List T → List Bool → ℕ → ℕ → Seen T
 shows bits elements memory start len = record { bits = bits; elements = elements; memory = memory; window = record { start = start; len = len } }
 
-same_seen : {T : Type 0} (b c : List Bool) (e f : List T) (m n : List Bool) (s u k l : ℕ) → b ≡ c → e ≡ f → m ≡ n → s ≡ u → k ≡ l → shows b e m s k ≡ shows c f n u l
-same_seen b c e f m n s u k l bits elements memory start len = cc
+same_seen : {T : Type 0} {b c : List Bool} {e f : List T} {m n : List Bool} {s u k l : ℕ} → b ≡ c → e ≡ f → m ≡ n → s ≡ u → k ≡ l → shows b e m s k ≡ shows c f n u l
+same_seen bits elements memory start len = cc
 
 module _ {T O : Type 0} {t : Store T} {o : Order O} (view part : BitSlice T O t o) (places : Range ℕ) where
   pub part_seen : 0 < t.BITS → LiesIn (seen view).window.len places → IsRangeOf t.BITS (seen view) places.start places.end (seen part) → seen part ≡ subview t.BITS (seen view) places
@@ -42,7 +42,7 @@ module _ {T O : Type 0} {t : Store T} {o : Order O} (view part : BitSlice T O t 
       let order = within.start in
       let len = within.len in
       let are = touches t.BITS (length xs) (start + places.start) (start + places.end) some (omega arith) (omega arith) in
-      same_seen _ _ _ _ _ _ _ _ _ _ is.bits is.elements
+      same_seen is.bits is.elements
       (ap (λ (elements : List T). memory_bits t.BITS o.at (map t.value elements)) is.elements
       ∙ ap (memory_bits t.BITS o.at) (range-map t.value elements _ _)
       ∙ memory-range t.BITS o.at xs _ _ some are.order are.bound)

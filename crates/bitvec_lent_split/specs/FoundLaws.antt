@@ -29,4 +29,4 @@ module _ {T O P W L : Type 0} {t : Store T} {o : Order O} (s : SplitsMut T O P W
       let ordered = s.ordered in
       let held = s.held in
       let is = touches t.BITS (length s.elements.now) (s.head + s.found.start) (s.head + s.found.end) some (omega arith) (omega arith) in
-      refilled-keeps s.elements.now ws _ _ is.order is.bound
+      refilled-keeps s.elements.now ws is.order is.bound

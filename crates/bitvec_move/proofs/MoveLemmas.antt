@@ -18,8 +18,8 @@ use Rattle.bitvec_words.specs.Moves.{Copies, SwapsWindows}
 -- ---- numbers
 
 -- the element of a place in a window, where the memory may have changed
-pub place-element : (b w : ℕ) (xs ys : List ℕ) (window : Window) (e : ℕ) → IsWidth b → w ≡ b → HasWindow b xs window → e < window.start + window.len → length ys ≡ length xs → e / w < length ys
-place-element b w xs ys window e width is has below kept =
+pub place-element : {b w : ℕ} {xs : List ℕ} (ys : List ℕ) {window : Window} (e : ℕ) → IsWidth b → w ≡ b → HasWindow b xs window → e < window.start + window.len → length ys ≡ length xs → e / w < length ys
+place-element {b} {w} {xs} ys e width is has below kept =
     let all : e < length xs * b = omega arith in
     rw (is, kept) (div_below e b (length xs) (width_some b width) all)
 
@@ -27,14 +27,14 @@ pub head-order : (w : ℕ) (window : Window) (part : Part) → part ≡ first_pa
 head-order w window part is = rw is (omega arith)
 
 -- the first part has no more bits than the window
-pub head-fits : (t w : ℕ) (window : Window) (part : Part) → t ≡ part.to - part.from → part ≡ first_part_of w window → t ≤ window.len
-head-fits t w window part step is =
+pub head-fits : {t : ℕ} (w : ℕ) (window : Window) {part : Part} → t ≡ part.to - part.from → part ≡ first_part_of w window → t ≤ window.len
+head-fits w window step is =
     let long = rw is at step in
     omega arith
 
 -- the elements that n bits touch are some of the loads and stores of as many bits
-pub touched-read : (b s n m : ℕ) → 0 < b → m ≡ n → touched_count b s n ≤ read_loads b true m
-touched-read b s n m some same = rw same (touched_read b true s n some)
+pub touched-read : (b s : ℕ) {n m : ℕ} → 0 < b → m ≡ n → touched_count b s n ≤ read_loads b true m
+touched-read b s {n} some same = rw same (touched_read b true s n some)
 
 pub touched-stored : (b s n m : ℕ) → 0 < b → m ≡ n → touched_count b s n ≤ write_stores b true m
 touched-stored b s n m some same = rw same (touched_stored b true s n some)
@@ -46,21 +46,21 @@ pub Copies-same : (b : ℕ) (at : ℕ → ℕ → ℕ) (old new other : List ℕ
     → Copies b at old new part other source → Copies b at old new to other from
 Copies-same b at old new other part source to from start len source_start source_len copies = rw (start, len, source_start, source_len) copies
 
-pub SwapsWindows-same : (b : ℕ) (at : ℕ → ℕ → ℕ) (xs new_xs ys new_ys : List ℕ) (part source left right : Window)
+pub SwapsWindows-same : (b : ℕ) {at : ℕ → ℕ → ℕ} {xs new_xs ys new_ys : List ℕ} {part source : Window} (left right : Window)
     → left.start ≡ part.start → left.len ≡ part.len → right.start ≡ source.start → right.len ≡ source.len
     → SwapsWindows b at xs new_xs ys new_ys part source → SwapsWindows b at xs new_xs ys new_ys left right
-SwapsWindows-same b at xs new_xs ys new_ys part source left right start len source_start source_len swaps = record {
+SwapsWindows-same b {at} {xs} {new_xs} {ys} {new_ys} {part} {source} left right start len source_start source_len swaps = record {
   writes = Copies-same b at xs new_xs ys part source left right start len source_start source_len swaps.writes;
   right_writes = Copies-same b at ys new_ys xs source part right left source_start source_len start len swaps.right_writes;
 }
 
 -- ---- what is behind t bits, where the memories may have changed
 
-pub after-span : (b : ℕ) (xs now ys others : List ℕ) (left right : Window) (t : ℕ) → HasSpan b xs ys left right → length now ≡ length xs → length others ≡ length ys
+pub after-span : {b : ℕ} {xs now ys others : List ℕ} {left right : Window} (t : ℕ) → HasSpan b xs ys left right → length now ≡ length xs → length others ≡ length ys
     → t ≤ left.len → HasSpan b now others (window_after t left) (window_after t right)
-after-span b xs now ys others left right t has kept right_kept fits =
+after-span {b} {xs} {now} {ys} {others} {left} {right} t has kept right_kept fits =
     record {
-      window = HasWindow-part b now left (window_after t left) (HasWindow-kept b xs now left has.window kept) (omega arith) (omega arith);
-      beside = HasWindow-part b others right (window_after t right) (HasWindow-kept b ys others right has.beside right_kept) (omega arith) (omega arith);
+      window = HasWindow-part (window_after t left) (HasWindow-kept now has.window kept) (omega arith) (omega arith);
+      beside = HasWindow-part (window_after t right) (HasWindow-kept others has.beside right_kept) (omega arith) (omega arith);
       lengths = omega arith;
     }

@@ -68,32 +68,32 @@ beside-element_from b first skip step = record { start = refl; next = omega arit
 -- ---- an exchange after another
 
 -- what the first one left of the other memory is what the second one takes
-pub Writes-exchanged : (b : ℕ) (at : ℕ → ℕ → ℕ) (old mid new other middle : List ℕ) (first rest whole its_first its_rest its_whole : Window) (list : List Bool)
+pub Writes-exchanged : {b : ℕ} {at : ℕ → ℕ → ℕ} {old mid new other : List ℕ} (middle : List ℕ) {first rest whole its_first its_rest its_whole : Window} (list : List Bool)
     → HasWindow b old whole → HasWindow b other its_whole
     → SideBySide first rest whole → SideBySide its_first its_rest its_whole
     → Writes b at old mid first (list_in b at other its_first) → Writes b at mid new rest (list_in b at middle its_rest)
     → Writes b at other middle its_first list
     → Writes b at old new whole (list_in b at other its_whole)
-Writes-exchanged b at old mid new other middle first rest whole its_first its_rest its_whole list has its beside its_beside before after kept =
+Writes-exchanged {b} {at} {old} {mid} {new} {other} middle {first} {rest} {whole} {its_first} {its_rest} {its_whole} list has its beside its_beside before after kept =
     let start = its_beside.start in
     let next = its_beside.next in
     let len = its_beside.len in
-    let behind = list-behind b at other middle its_first its_rest list
-    (HasWindow-part b other its_whole its_first its (omega arith) (omega arith))
-    (HasWindow-part b other its_whole its_rest its (omega arith) (omega arith)) (omega arith) kept in
-    Writes-is b at old new whole _ _
-    (Writes-join b at old mid new first rest whole _ _ has beside.start beside.next beside.len before after)
-    (ap (λ (l : List Bool). list_in b at other its_first ++ l) behind ∙ list-join b at other its_first its_rest its_whole its start next len)
+    let behind = list-behind
+    (HasWindow-part its_first its (omega arith) (omega arith))
+    (HasWindow-part its_rest its (omega arith) (omega arith)) (omega arith) kept in
+    Writes-is
+    (Writes-join has beside.start beside.next beside.len before after)
+    (ap (λ (l : List Bool). list_in b at other its_first ++ l) behind ∙ list-join at its_first its_rest its start next len)
 
 -- so both sides
-pub SwapsWindows-joined : (b : ℕ) (at : ℕ → ℕ → ℕ) (xs mid new ys middle last : List ℕ) (first rest left its_first its_rest right : Window)
+pub SwapsWindows-joined : {b : ℕ} {at : ℕ → ℕ → ℕ} {xs mid new ys middle last : List ℕ} {first rest left its_first its_rest right : Window}
     → HasWindow b xs left → HasWindow b ys right
     → SideBySide first rest left → SideBySide its_first its_rest right
     → SwapsWindows b at xs mid ys middle first its_first → SwapsWindows b at mid new middle last rest its_rest
     → SwapsWindows b at xs new ys last left right
-SwapsWindows-joined b at xs mid new ys middle last first rest left its_first its_rest right has its beside its_beside before after = record {
-  writes = Writes-exchanged b at xs mid new ys middle first rest left its_first its_rest right _ has its beside its_beside before.writes after.writes before.right_writes;
-  right_writes = Writes-exchanged b at ys middle last xs mid its_first its_rest right first rest left _ its has its_beside beside before.right_writes after.right_writes before.writes;
+SwapsWindows-joined {b} {at} {xs} {mid} {new} {ys} {middle} {last} {first} {rest} {left} {its_first} {its_rest} {right} has its beside its_beside before after = record {
+  writes = Writes-exchanged middle _ has its beside its_beside before.writes after.writes before.right_writes;
+  right_writes = Writes-exchanged mid _ its has its_beside beside before.right_writes after.right_writes before.writes;
 }
 
 -- ---- elements
@@ -108,43 +108,43 @@ Writes-set b at xs e v some inside = record {
 }
 
 -- the first elements of a window of elements
-pub first_elements : (b : ℕ) (xs : List ℕ) (first count step : ℕ) → HasWindow b xs (elements_window b first count) → step < count
+pub first_elements : {b : ℕ} {xs : List ℕ} (first count step : ℕ) → HasWindow b xs (elements_window b first count) → step < count
     → HasWindow b xs (elements_window b first (step + 1))
-first_elements b xs first count step has more =
+first_elements {b} {xs} first count step has more =
     let order = mul-le-mul_left b more in
-    HasWindow-part b xs (elements_window b first count) (elements_window b first (step + 1)) has (omega arith) (omega arith)
+    HasWindow-part (elements_window b first (step + 1)) has (omega arith) (omega arith)
 
 -- the element behind them
-pub next_element : (b : ℕ) (xs ys : List ℕ) (first count step : ℕ) → 0 < b → HasWindow b xs (elements_window b first count) → step < count
+pub next_element : {b : ℕ} {xs : List ℕ} (ys : List ℕ) (first count step : ℕ) → 0 < b → HasWindow b xs (elements_window b first count) → step < count
     → length ys ≡ length xs → first + step < length ys
-next_element b xs ys first count step some has more same =
+next_element {b} {xs} ys first count step some has more same =
     let order = mul-le-mul_left b more in
     rw same (element_of b (first + step) 0 (length xs) (omega arith))
 
 -- one more is exchanged
-pub Writes-exchanged_element : (b : ℕ) (at : ℕ → ℕ → ℕ) (old mid other middle : List ℕ) (first source count step : ℕ) (list : List Bool)
+pub Writes-exchanged_element : {b : ℕ} {at : ℕ → ℕ → ℕ} {old mid other middle : List ℕ} (first source count step : ℕ) {list : List Bool}
     → 0 < b → HasWindow b old (elements_window b first count) → HasWindow b other (elements_window b source count) → step < count
     → Writes b at old mid (elements_window b first step) (list_in b at other (elements_window b source step))
     → Writes b at other middle (elements_window b source step) list
     → Writes b at old (slice_set mid (first + step) (slice_index middle (source + step))) (elements_window b first (step + 1))
     (list_in b at other (elements_window b source (step + 1)))
-Writes-exchanged_element b at old mid other middle first source count step list some has its more before kept =
-    Writes-exchanged b at old mid _ other middle _ _ _ _ _ _ list
-    (first_elements b old first count step has more) (first_elements b other source count step its more)
+Writes-exchanged_element {b} {at} {old} {mid} {other} {middle} first source count step {list} some has its more before kept =
+    Writes-exchanged middle list
+    (first_elements first count step has more) (first_elements source count step its more)
     (beside-element b first step) (beside-element b source step) before
-    (Writes-is _ _ _ _ _ _ _
-    (Writes-set b at mid (first + step) (slice_index middle (source + step)) some (next_element b old mid first count step some has more before.elements))
-    (sym (list-whole b at middle (source + step) (next_element b other middle source count step some its more kept.elements))))
+    (Writes-is
+    (Writes-set b at mid (first + step) (slice_index middle (source + step)) some (next_element mid first count step some has more before.elements))
+    (sym (list-whole b at middle (source + step) (next_element middle source count step some its more kept.elements))))
     kept
 
 -- a part that takes the bits at its indices of another element
-pub Writes-exchanged_part : (b : ℕ) (at : ℕ → ℕ → ℕ) (xs ys : List ℕ) (part its : Part) (v w : ℕ) → 0 < b → HasPart b xs part
+pub Writes-exchanged_part : {b : ℕ} {at : ℕ → ℕ → ℕ} {xs ys : List ℕ} {part its : Part} {v : ℕ} (w : ℕ) → 0 < b → HasPart b xs part
     → HasPart b ys its → its.from ≡ part.from → its.to ≡ part.to → v ≡ slice_index ys its.element
     → element_bits b at w ≡ write_at (element_bits b at (slice_index xs part.element)) part.from (slice_range (element_bits b at v) part.from part.to)
     → Writes b at xs (slice_set xs part.element w) (part_window b part) (list_in b at ys (part_window b its))
-Writes-exchanged_part b at xs ys part its v w some has there from to is wrote =
-    Writes-is b at xs (slice_set xs part.element w) (part_window b part) _ _
-    (part-stored b at xs part v w some has wrote)
+Writes-exchanged_part {b} {at} {xs} {ys} {part} {its} {v} w some has there from to is wrote =
+    Writes-is
+    (part-stored at v w some has wrote)
     (ap (λ (n : ℕ). slice_range (element_bits b at n) part.from part.to) is
     ∙ range-same (element_bits b at (slice_index ys its.element)) part.from part.to its.from its.to (sym from) (sym to)
-    ∙ sym (list-part b at ys its there))
+    ∙ sym (list-part at there))

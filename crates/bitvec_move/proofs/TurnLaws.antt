@@ -28,8 +28,8 @@ pub turn-span : (later : Bool) (b : ℕ) (old now : List ℕ) (first source coun
 turn-span later b old now first source count k w has kept fits =
     let order = mul-le-mul_right b (turn-fits later k w count fits) in
     record {
-      window = HasWindow-kept b old now _ (HasWindow-part b old _ _ has.window (omega arith) (omega arith)) kept;
-      beside = HasWindow-kept b old now _ (HasWindow-part b old _ _ has.beside (omega arith) (omega arith)) kept;
+      window = HasWindow-kept now (HasWindow-part _ has.window (omega arith) (omega arith)) kept;
+      beside = HasWindow-kept now (HasWindow-part _ has.beside (omega arith) (omega arith)) kept;
       lengths = refl;
     }
 
@@ -40,16 +40,16 @@ turn-left : (later : Bool) (b : ℕ) (at : ℕ → ℕ → ℕ) (old now : List 
 turn-left false b at old now first source count k w has towards fits moved =
     let inside : (k + w) * b ≤ count * b = mul-le-mul_right b fits in
     let order : (first + k) * b ≤ (source + k) * b = mul-le-mul_right b (omega arith) in
-    list-behind b at old now (elements_window b (first + 0) k) (elements_window_from b (source + k) 0 w) _
-    (HasWindow-part b old _ _ has.window (omega arith) (omega arith))
-    (HasWindow-part b old _ _ has.beside (omega arith) (omega arith))
+    list-behind
+    (HasWindow-part _ has.window (omega arith) (omega arith))
+    (HasWindow-part _ has.beside (omega arith) (omega arith))
     (omega arith) moved
 turn-left true b at old now first source count k w has towards fits moved =
     let order : source * b ≤ first * b = mul-le-mul_right b towards in
     let inside : (count - k + k) * b ≡ count * b = ap (λ (n : ℕ). n * b) (omega arith) in
     let next : (count - k) * b ≡ (count - (k + w) + w) * b = ap (λ (n : ℕ). n * b) (omega arith) in
-    list-ahead b at old now (elements_window b (first + (count - k)) k) (elements_window_from b (source + (count - (k + w))) 0 w) _
-    (HasWindow-part b old _ _ has.window (omega arith) (omega arith))
+    list-ahead (elements_window_from b (source + (count - (k + w))) 0 w)
+    (HasWindow-part _ has.window (omega arith) (omega arith))
     (omega arith) moved
 
 -- then k + w are moved
@@ -58,10 +58,10 @@ pub CopiesSome-turn : (later : Bool) (b : ℕ) (at : ℕ → ℕ → ℕ) (old n
     → CopiesSome later b at old new first source 0 count (k + w)
 CopiesSome-turn false b at old now new first source count k w has towards fits before after =
     let place : k + w - w ≡ k = omega arith in
-    CopiesSome-part false b at old now new first source 0 count k (k + w) w (list_in b at now (elements_window_from b (source + k) 0 w)) has (omega arith) (le_refl (k + w)) (omega arith) fits before
+    CopiesSome-part false {at = at} {mid = now} {new = new} first source 0 count k (k + w) w {list = list_in b at now (elements_window_from b (source + k) 0 w)} has (omega arith) (le_refl (k + w)) (omega arith) fits before
     (rw place after) (rw place (turn-left false b at old now first source count k w has towards fits before))
 CopiesSome-turn true b at old now new first source count k w has towards fits before after =
-    CopiesSome-part true b at old now new first source 0 count k (k + w) w (list_in b at now (elements_window_from b (source + (count - (k + w))) 0 w)) has (omega arith) (le_refl (k + w)) (omega arith) fits before
+    CopiesSome-part true {at = at} {mid = now} {new = new} first source 0 count k (k + w) w {list = list_in b at now (elements_window_from b (source + (count - (k + w))) 0 w)} has (omega arith) (le_refl (k + w)) (omega arith) fits before
     after (turn-left true b at old now first source count k w has towards fits before)
 
 -- in the end all are

@@ -26,10 +26,10 @@ unfolding shifted_end shifted_start
 range-moved list f k n e t end to fits inside = same_lists _ _ (search (rules, places)) (λ i d below. grind (arith, places))
 
 -- and what doesn't fit there, moved to the start by as many as did
-pub range-moved_across : (list : List Bool) (b f k n m t : ℕ) → length list ≡ b → k < b → b + m ≡ k + n → t ≡ f + n → t ≤ b
+pub range-moved_across : (list : List Bool) {b : ℕ} (f k n m : ℕ) {t : ℕ} → length list ≡ b → k < b → b + m ≡ k + n → t ≡ f + n → t ≤ b
     → slice_range (shifted_end k (shifted_start f list)) k b ++ slice_range (shifted_start (b - k) (shifted_start f list)) 0 m ≡ slice_range list f t
 unfolding shifted_end shifted_start
-range-moved_across list b f k n m t long below over to inside = same_lists _ _ (search (rules, places)) (λ i d h. grind (arith, places))
+range-moved_across list f k n m long below over to inside = same_lists _ _ (search (rules, places)) (λ i d h. grind (arith, places))
 
 -- ---- the ends of two elements
 
@@ -38,25 +38,25 @@ pub record JoinsEnds (b skip : ℕ) (list before latest : List Bool) : Type 0 wh
   pub first : take skip list ≡ drop (b - skip) before
   pub rest : drop skip list ≡ drop skip latest
 
-pub ends-start : (b skip : ℕ) (list before : List Bool) → length list ≡ b → skip < b → before ≡ shifted_end (b - skip) list → JoinsEnds b skip list before list
+pub ends-start : {b skip : ℕ} {list before : List Bool} → length list ≡ b → skip < b → before ≡ shifted_end (b - skip) list → JoinsEnds b skip list before list
 unfolding shifted_end
-ends-start b skip list before long below is = record {
+ends-start long below is = record {
   first = rw is (same_lists _ _ (search (rules, places)) (λ i d h. grind (arith, places)));
   rest = refl;
 }
 
-pub ends-next : (b skip : ℕ) (list element next : List Bool) → length element ≡ b → length next ≡ b → skip < b → list ≡ write_at next 0 (drop (b - skip) element) → JoinsEnds b skip list element next
+pub ends-next : {b : ℕ} (skip : ℕ) {list : List Bool} (element next : List Bool) → length element ≡ b → length next ≡ b → skip < b → list ≡ write_at next 0 (drop (b - skip) element) → JoinsEnds b skip list element next
 unfolding write_at
-ends-next b skip list element next long other below is = record {
+ends-next skip element next long other below is = record {
   first = rw is (same_lists _ _ (search (rules, places)) (λ i d h. grind (arith, places)));
   rest = rw is (same_lists _ _ (search (rules, places)) (λ i d h. grind (arith, places)));
 }
 
 -- the last values of a list before the first ones of another
-pub ends-joined : (b skip : ℕ) (list before latest element : List Bool) → length list ≡ b → length element ≡ b → skip < b → JoinsEnds b skip list before latest
+pub ends-joined : {b skip : ℕ} {list before latest : List Bool} (element : List Bool) → length list ≡ b → length element ≡ b → skip < b → JoinsEnds b skip list before latest
     → drop (b - skip) before ++ take (b - skip) element ≡ write_at list skip (take (b - skip) element)
 unfolding write_at
-ends-joined b skip list before latest element long other below ends = rw (← ends.first) (same_lists _ _ (search (rules, places)) (λ i d h. grind (arith, places)))
+ends-joined element long other below ends = rw (← ends.first) (same_lists _ _ (search (rules, places)) (λ i d h. grind (arith, places)))
 
 -- the last values, moved to the start
 pub range-carried : (list : List Bool) (b k : ℕ) → length list ≡ b → k < b → slice_range (shifted_start (b - k) list) 0 k ≡ drop (b - k) list
@@ -79,28 +79,28 @@ first-inside b xs window has more =
     element_of b (window.start / b) (window.start % b) (length xs) (omega arith)
 
 -- a memory with another element has the same windows
-pub HasWindow-set : (b : ℕ) (xs : List ℕ) (e v : ℕ) (window : Window) → HasWindow b xs window → HasWindow b (slice_set xs e v) window
-HasWindow-set b xs e v window has = HasWindow-kept b xs (slice_set xs e v) window has (length-set xs e v)
+pub HasWindow-set : {b : ℕ} {xs : List ℕ} (e v : ℕ) {window : Window} → HasWindow b xs window → HasWindow b (slice_set xs e v) window
+HasWindow-set {b} {xs} e v {window} has = HasWindow-kept (slice_set xs e v) has (length-set xs e v)
 
 -- ---- what the windows hold, where the element p waits to be stored as the element e
 
 -- within the element that waits
-pub waiting-front : (b : ℕ) (at : ℕ → ℕ → ℕ) (xs : List ℕ) (window : Window) (p : ℕ) → 0 < b → HasWindow b xs window → 0 < window.len
+pub waiting-front : {b : ℕ} (at : ℕ → ℕ → ℕ) {xs : List ℕ} {window : Window} (p : ℕ) → 0 < b → HasWindow b xs window → 0 < window.len
     → window.start % b + window.len ≤ b
     → take window.len (shifted_start (window.start % b) (element_bits b at p)) ≡ list_in b at (slice_set xs (window.start / b) p) window
-waiting-front b at xs window p some has more fits =
+waiting-front {b} at {xs} {window} p some has more fits =
     let e : ℕ = window.start / b in
-    let all = list-front b at (slice_set xs e p) window some (HasWindow-set b xs e p window has) more fits in
+    let all = list-front at some (HasWindow-set e p has) more fits in
     rw (get_or-set_same xs e p 0 (first-inside b xs window has more)) at all
 
 -- within it and the next one
-pub waiting-across : (b : ℕ) (at : ℕ → ℕ → ℕ) (xs : List ℕ) (window : Window) (p : ℕ) → 0 < b → HasWindow b xs window → 0 < window.len
+pub waiting-across : {b : ℕ} (at : ℕ → ℕ → ℕ) {xs : List ℕ} {window : Window} (p : ℕ) → 0 < b → HasWindow b xs window → 0 < window.len
     → window.len ≤ b → b < window.start % b + window.len
     → take window.len (drop (window.start % b) (element_bits b at p) ++ take (window.start % b) (element_bits b at (slice_index xs (window.start / b + 1))))
     ≡ list_in b at (slice_set xs (window.start / b) p) window
-waiting-across b at xs window p some has more fits over =
+waiting-across {b} at {xs} {window} p some has more fits over =
     let e : ℕ = window.start / b in
-    let all = list-across b at (slice_set xs e p) window some (HasWindow-set b xs e p window has) fits over in
+    let all = list-across at some (HasWindow-set e p has) fits over in
     rw (get_or-set_same xs e p 0 (first-inside b xs window has more), get_or-set_other xs e (e + 1) p 0 (λ same. omega arith)) at all
 
 -- an element's width of bits
@@ -124,12 +124,12 @@ waiting-one b at xs e skip end p w list some inside order fits long wrote =
     let written = part-write b at (slice_set xs e p) e skip end w list some (omega arith) order fits long bits in
     record { bits = rw (set-set xs e p w) at written; long = long; elements = length-set xs e w ∙ sym kept }
 
-pub waiting-inside : (b : ℕ) (at : ℕ → ℕ → ℕ) (xs : List ℕ) (window : Window) (end p v w : ℕ) → 0 < b → HasWindow b xs window → 0 < window.len
+pub waiting-inside : {b : ℕ} {at : ℕ → ℕ → ℕ} {xs : List ℕ} {window : Window} {end : ℕ} (p v w : ℕ) → 0 < b → HasWindow b xs window → 0 < window.len
     → end ≡ window.start % b + window.len → end ≤ b
     → element_bits b at w ≡ write_at (element_bits b at p) (window.start % b) (slice_range (element_bits b at v) (window.start % b) end)
     → Writes b at (slice_set xs (window.start / b) p) (slice_set xs ((window.start + window.len - 1) / b) w) window
     (slice_range (element_bits b at v) (window.start % b) end)
-waiting-inside b at xs window end p v w some has more is fits wrote =
+waiting-inside {b} {at} {xs} {window} {end} p v w some has more is fits wrote =
     let place = div-add-mod' window.start b in
     rw (last-first b window.start window.len some more (omega arith))
     (Writes-same (record { start = window.start / b * b + window.start % b; len = end - window.start % b }) window (sym place) (omega arith)
@@ -147,17 +147,16 @@ waiting-two b at xs e skip n m p w u list other some has next below over fits lo
     let there = get_or-set_other xs e (e + 1) w 0 (λ same. omega arith) in
     let size = length-set xs e w in
     let second = rw kept at (waiting-one b at (slice_set xs e w) (e + 1) 0 m (slice_index (slice_set xs e w) (e + 1)) u other some (omega arith) (omega arith) fits (omega arith) (rw there wrote_next)) in
-    Writes-join b at (slice_set xs e p) (slice_set xs e w) _ (record { start = e * b + skip; len = b - skip }) (record { start = (e + 1) * b + 0; len = m - 0 })
-    (record { start = e * b + skip; len = n }) list other
-    (HasWindow-set b xs e p _ has) refl (omega arith) (omega arith) first second
+    Writes-join
+    (HasWindow-set e p has) refl (omega arith) (omega arith) first second
 
-pub waiting-beyond : (b : ℕ) (at : ℕ → ℕ → ℕ) (xs : List ℕ) (window : Window) (end p v w t u : ℕ) → 0 < b → HasWindow b xs window
+pub waiting-beyond : {b : ℕ} {at : ℕ → ℕ → ℕ} {xs : List ℕ} {window : Window} {end : ℕ} (p v w t u : ℕ) → 0 < b → HasWindow b xs window
     → end ≡ window.start % b + window.len → window.len ≤ b → b < end
     → element_bits b at w ≡ write_at (element_bits b at p) (window.start % b) (slice_range (element_bits b at v) (window.start % b) b)
     → element_bits b at u ≡ write_at (element_bits b at (slice_index xs (window.start / b + 1))) 0 (slice_range (element_bits b at t) 0 (end - b))
     → Writes b at (slice_set xs (window.start / b) p) (slice_set (slice_set xs (window.start / b) w) ((window.start + window.len - 1) / b) u) window
     (slice_range (element_bits b at v) (window.start % b) b ++ slice_range (element_bits b at t) 0 (end - b))
-waiting-beyond b at xs window end p v w t u some has is fits over wrote wrote_next =
+waiting-beyond {b} {at} {xs} {window} {end} p v w t u some has is fits over wrote wrote_next =
     let place = div-add-mod' window.start b in
     let head = mod_below window.start b some in
     let has' : HasWindow b xs (record { start = window.start / b * b + window.start % b; len = window.len }) = rw place has in
@@ -169,23 +168,23 @@ waiting-beyond b at xs window end p v w t u some has is fits over wrote wrote_ne
 -- ---- whole elements exchanged with the bits from an index of an element on
 
 -- none
-pub across-none : (b : ℕ) (at : ℕ → ℕ → ℕ) (xs ys : List ℕ) (source skip first count p : ℕ)
+pub across-none : {b : ℕ} {at : ℕ → ℕ → ℕ} {xs : List ℕ} (ys : List ℕ) (source skip first count p : ℕ)
     → HasWindow b xs (elements_window_from b source skip count)
     → Writes b at (slice_set xs source p) (slice_set xs (source + 0) p) (elements_window_from b source skip 0) (list_in b at ys (elements_window b first 0))
-across-none b at xs ys source skip first count p has =
+across-none {b} {at} {xs} ys source skip first count p has =
     let start = has.within.start in
     let nothing : 0 * b ≡ 0 = omega arith in
     let same : source + 0 ≡ source = omega arith in
     let here : HasWindow b xs (elements_window_from b source skip 0) = record { fits = has.fits; within = record { start = start; len = omega arith } } in
     rw same
-    (Writes-none b at (slice_set xs source p) ys (elements_window_from b source skip 0) (elements_window b first 0) (HasWindow-set b xs source p (elements_window_from b source skip 0) here) nothing nothing)
+    (Writes-none at ys (elements_window b first 0) (HasWindow-set source p here) nothing nothing)
 
 -- the element behind the next one that is exchanged
-pub across-next : (b : ℕ) (at : ℕ → ℕ → ℕ) (xs ys : List ℕ) (source skip count step p q : ℕ) (list : List Bool) → 0 < skip
+pub across-next : {b : ℕ} {at : ℕ → ℕ → ℕ} {xs : List ℕ} (ys : List ℕ) (source skip count step p q : ℕ) {list : List Bool} → 0 < skip
     → HasWindow b xs (elements_window_from b source skip count) → step < count
     → Writes b at (slice_set xs source p) (slice_set ys (source + step) q) (elements_window_from b source skip step) list
     → source + step + 1 < length ys
-across-next b at xs ys source skip count step p q list some has more before =
+across-next {b} {at} {xs} ys source skip count step p q some has more before =
     let order = mul-le-mul_left b more in
     let now = length-set ys (source + step) q in
     let old = length-set xs source p in
@@ -196,10 +195,10 @@ first_bits : (b : ℕ) (xs : List ℕ) (source skip count step p : ℕ) → HasW
     → HasWindow b (slice_set xs source p) (elements_window_from b source skip (step + 1))
 first_bits b xs source skip count step p has more =
     let order = mul-le-mul_left b more in
-    HasWindow-set b xs source p _ (HasWindow-part b xs (elements_window_from b source skip count) (elements_window_from b source skip (step + 1)) has (omega arith) (omega arith))
+    HasWindow-set source p (HasWindow-part (elements_window_from b source skip (step + 1)) has (omega arith) (omega arith))
 
 -- one more
-pub across-element : (b : ℕ) (at : ℕ → ℕ → ℕ) (old mid xs ys : List ℕ) (first source skip count step p q v : ℕ) (list : List Bool) → 0 < b
+pub across-element : {b : ℕ} {at : ℕ → ℕ → ℕ} {old mid xs : List ℕ} (ys : List ℕ) (first source skip count step p q v : ℕ) {list : List Bool} → 0 < b
     → 0 < skip → skip < b
     → HasWindow b old (elements_window b first count) → HasWindow b xs (elements_window_from b source skip count) → step < count
     → element_bits b at v ≡ drop skip (element_bits b at q) ++ take skip (element_bits b at (slice_index ys (source + step + 1)))
@@ -207,16 +206,16 @@ pub across-element : (b : ℕ) (at : ℕ → ℕ → ℕ) (old mid xs ys : List 
     → Writes b at (slice_set xs source p) (slice_set ys (source + step) q) (elements_window_from b source skip step) list
     → Writes b at old (slice_set mid (first + step) v) (elements_window b first (step + 1))
     (list_in b at (slice_set xs source p) (elements_window_from b source skip (step + 1)))
-across-element b at old mid xs ys first source skip count step p q v list some inside below has its more joined before kept =
-    Writes-exchanged b at old mid _ (slice_set xs source p) (slice_set ys (source + step) q) _ _ _ _ _ _ list
-    (first_elements b old first count step has more) (first_bits b xs source skip count step p its more)
+across-element {b} {at} {old} {mid} {xs} ys first source skip count step p q v {list} some inside below has its more joined before kept =
+    Writes-exchanged (slice_set ys (source + step) q) list
+    (first_elements first count step has more) (first_bits b xs source skip count step p its more)
     (beside-element b first step) (beside-element_from b source skip step) before
-    (Writes-is _ _ _ _ _ _ _
-    (Writes-set b at mid (first + step) v some (next_element b old mid first count step some has more before.elements))
-    (joined ∙ waiting-both b at ys (source + step) skip q below (across-next b at xs ys source skip count step p q list inside its more kept)))
+    (Writes-is
+    (Writes-set b at mid (first + step) v some (next_element mid first count step some has more before.elements))
+    (joined ∙ waiting-both b at ys (source + step) skip q below (across-next ys source skip count step p q inside its more kept)))
     kept
 
-pub across-bits : (b : ℕ) (at : ℕ → ℕ → ℕ) (old mid xs ys : List ℕ) (first source skip count step p q w u : ℕ) → 0 < b → 0 < skip → skip < b
+pub across-bits : {b : ℕ} {at : ℕ → ℕ → ℕ} {old mid xs : List ℕ} (ys : List ℕ) (first source skip count step p q w u : ℕ) → 0 < b → 0 < skip → skip < b
     → HasWindow b old (elements_window b first count) → HasWindow b xs (elements_window_from b source skip count) → step < count
     → element_bits b at w ≡ write_at (element_bits b at q) skip (take (b - skip) (element_bits b at (slice_index mid (first + step))))
     → element_bits b at u ≡ write_at (element_bits b at (slice_index ys (source + step + 1))) 0 (drop (b - skip) (element_bits b at (slice_index mid (first + step))))
@@ -225,10 +224,10 @@ pub across-bits : (b : ℕ) (at : ℕ → ℕ → ℕ) (old mid xs ys : List ℕ
     (list_in b at old (elements_window b first step))
     → Writes b at (slice_set xs source p) (slice_set (slice_set ys (source + step) w) (source + (step + 1)) u) (elements_window_from b source skip (step + 1))
     (list_in b at old (elements_window b first (step + 1)))
-across-bits b at old mid xs ys first source skip count step p q w u some inside below has its more stored waits kept before =
+across-bits {b} {at} {old} {mid} {xs} ys first source skip count step p q w u some inside below has its more stored waits kept before =
     let element = element_bits b at (slice_index mid (first + step)) in
     let long = length-element_bits b at (slice_index mid (first + step)) in
-    let next = across-next b at xs ys source skip count step p q _ inside its more before in
+    let next = across-next ys source skip count step p q inside its more before in
     let place : source + (step + 1) ≡ source + step + 1 = omega arith in
     let now = length-set ys (source + step) q in
     let old_long = length-set xs source p in
@@ -237,12 +236,12 @@ across-bits b at old mid xs ys first source skip count step p q w u some inside 
     let here : HasWindow b ys (record { start = (source + step) * b + skip; len = b }) =
     record { fits = omega arith; within = record { start = omega arith; len = omega arith } } in
     rw place
-    (Writes-exchanged b at (slice_set xs source p) (slice_set ys (source + step) q) _ old mid _ _ _ _ _ _ _
-    (first_bits b xs source skip count step p its more) (first_elements b old first count step has more)
+    (Writes-exchanged mid _
+    (first_bits b xs source skip count step p its more) (first_elements first count step has more)
     (beside-element_from b source skip step) (beside-element b first step) before
-    (Writes-is _ _ _ _ _ _ _
+    (Writes-is
     (waiting-two b at ys (source + step) skip b skip q w u (take (b - skip) element) (drop (b - skip) element) some here next below (omega arith) (omega arith)
     (omega (arith, length-take (b - skip) element)) (omega (arith, length-drop (b - skip) element)) stored waits)
     (take-append-drop (b - skip) element
-    ∙ sym (list-whole b at mid (first + step) (next_element b old mid first count step some has more kept.elements))))
+    ∙ sym (list-whole b at mid (first + step) (next_element mid first count step some has more kept.elements))))
     kept)

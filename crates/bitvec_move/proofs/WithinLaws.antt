@@ -31,10 +31,10 @@ write_at-ahead : {X : Type 0} (list : List X) (s : ℕ) (x y : List X) → s + l
 unfolding write_at
 write_at-ahead list s x y fits = same_lists _ _ (search (rules, places)) (λ k d inside. grind (arith, places))
 
-pub Writes-join_back : (b : ℕ) (at : ℕ → ℕ → ℕ) (old mid new : List ℕ) (first second whole : Window) (list other : List Bool) → HasWindow b old whole → first.start ≡ whole.start → second.start ≡ first.start + first.len → whole.len ≡ first.len + second.len
+pub Writes-join_back : (b : ℕ) (at : ℕ → ℕ → ℕ) (old mid new : List ℕ) (first second whole : Window) {list other : List Bool} → HasWindow b old whole → first.start ≡ whole.start → second.start ≡ first.start + first.len → whole.len ≡ first.len + second.len
     → Writes b at old mid second other → Writes b at mid new first list → Writes b at old new whole (list ++ other)
-Writes-join_back b at old mid new first second whole list other has start next len before after =
-    let within = within-list b at old whole has in
+Writes-join_back b at old mid new first second whole {list} {other} has start next len before after =
+    let within = within-list at has in
     let list-long = after.long in
     let other-long = before.long in
     let place : second.start ≡ whole.start + length list = omega arith in
@@ -60,24 +60,24 @@ over-back list other s a t n m meet short fits inside = same_lists _ _ (search (
 -- ---- what a write leaves
 
 -- what stands before a written window stays
-pub list-ahead : (b : ℕ) (at : ℕ → ℕ → ℕ) (old new : List ℕ) (window ahead : Window) (list : List Bool) → HasWindow b old window → ahead.start + ahead.len ≤ window.start → Writes b at old new window list → list_in b at new ahead ≡ list_in b at old ahead
+pub list-ahead : {b : ℕ} {at : ℕ → ℕ → ℕ} {old new : List ℕ} {window : Window} (ahead : Window) {list : List Bool} → HasWindow b old window → ahead.start + ahead.len ≤ window.start → Writes b at old new window list → list_in b at new ahead ≡ list_in b at old ahead
 unfolding window_of
-list-ahead b at old new window ahead list has apart writes =
-    let within = within-list b at old window has in
+list-ahead {b} {at} {old} {new} {window} ahead {list} has apart writes =
+    let within = within-list at has in
     rw writes.bits (range-write_at_before (memory_bits b at old) window.start list ahead.start (ahead.start + ahead.len) (omega arith) apart)
 
 -- and so does an element behind it or before it
-element-apart : (b : ℕ) (at : ℕ → ℕ → ℕ) (old mid : List ℕ) (window : Window) (list : List Bool) (e : ℕ) → HasWindow b old window → window.start + window.len ≤ e * b ⊎ e * b + b ≤ window.start → Writes b at old mid window list
+element-apart : {b : ℕ} {at : ℕ → ℕ → ℕ} {old mid : List ℕ} {window : Window} {list : List Bool} (e : ℕ) → HasWindow b old window → window.start + window.len ≤ e * b ⊎ e * b + b ≤ window.start → Writes b at old mid window list
     → element_bits b at (slice_index mid e) ≡ element_bits b at (slice_index old e)
-element-apart b at old mid window list e has apart writes =
+element-apart {b} {at} {old} {mid} {window} {list} e has apart writes =
     let one : Window = record { start = e * b; len = b } in
     ⊎_elim
     (λ (inside : e < length old).
     let fit = element_fits b e (length old) inside in
     sym (list-whole b at mid e (omega arith))
     ∙ ⊎_elim
-    (λ (behind : window.start + window.len ≤ e * b). list-behind b at old mid window one list has (record { fits = has.fits; within = record { start = omega arith; len = omega arith } }) behind writes)
-    (λ (ahead : e * b + b ≤ window.start). list-ahead b at old mid window one list has ahead writes)
+    (λ (behind : window.start + window.len ≤ e * b). list-behind {behind = one} has (record { fits = has.fits; within = record { start = omega arith; len = omega arith } }) behind writes)
+    (λ (ahead : e * b + b ≤ window.start). list-ahead one has ahead writes)
     apart
     ∙ list-whole b at old e inside)
     (λ (outside : length old ≤ e). ap (element_bits b at) (get_or_past mid e 0 (omega arith) ∙ sym (get_or_past old e 0 outside)))
@@ -91,12 +91,12 @@ moved-below true k n fits = omega arith
 
 -- the elements that were moved
 moved-window : (later : Bool) (b : ℕ) (xs : List ℕ) (first count k : ℕ) → HasWindow b xs (elements_window b first count) → k ≤ count → HasWindow b xs (elements_window b (first + moved_place later k count) k)
-moved-window later b xs first count k has fits = let order = mul-le-mul_right b (moved-below later k count fits) in HasWindow-part b xs _ _ has (omega arith) (omega arith)
+moved-window later b xs first count k has fits = let order = mul-le-mul_right b (moved-below later k count fits) in HasWindow-part _ has (omega arith) (omega arith)
 
 -- at first none
-pub CopiesSome-none : (later : Bool) (b : ℕ) (at : ℕ → ℕ → ℕ) (xs : List ℕ) (first source skip count : ℕ) → HasWindow b xs (elements_window b first count)
+pub CopiesSome-none : (later : Bool) {b : ℕ} (at : ℕ → ℕ → ℕ) {xs : List ℕ} (first source skip count : ℕ) → HasWindow b xs (elements_window b first count)
     → CopiesSome later b at xs xs first source skip count 0
-CopiesSome-none later b at xs first source skip count has = Writes-none b at xs xs _ (elements_window_from b (source + moved_place later 0 count) skip 0) (moved-window later b xs first count 0 has (omega arith)) (omega arith) (omega arith)
+CopiesSome-none later {b} at {xs} first source skip count has = Writes-none at xs (elements_window_from b (source + moved_place later 0 count) skip 0) (moved-window later b xs first count 0 has (omega arith)) (omega arith) (omega arith)
 
 -- what is read next, r elements behind the source, is as it was
 pub nth-waiting : (later : Bool) (k n : ℕ) → nth_place later k n ≤ waiting_place later (k + 1) n
@@ -108,21 +108,21 @@ moved-apart : (later : Bool) (b first source count k r : ℕ) → IsToward later
 moved-apart false b first source count k r towards more low high = inl (let order : (first + k) * b ≤ (source + r) * b = mul-le-mul_right b (omega arith) in omega arith)
 moved-apart true b first source count k r towards more low high = inr (let order : (source + r + 1) * b ≤ (first + (count - k)) * b = mul-le-mul_right b (omega arith) in omega arith)
 
-pub CopiesSome-kept : (later : Bool) (b : ℕ) (at : ℕ → ℕ → ℕ) (old mid : List ℕ) (first source skip count k r : ℕ) → IsToward later first source → HasWindow b old (elements_window b first count) → k < count
+pub CopiesSome-kept : (later : Bool) {b : ℕ} (at : ℕ → ℕ → ℕ) {old : List ℕ} (mid : List ℕ) (first source skip count k r : ℕ) → IsToward later first source → HasWindow b old (elements_window b first count) → k < count
     → nth_place later k count ≤ r → r ≤ waiting_place later (k + 1) count → CopiesSome later b at old mid first source skip count k → element_bits b at (slice_index mid (source + r)) ≡ element_bits b at (slice_index old (source + r))
-CopiesSome-kept later b at old mid first source skip count k r towards has more low high moved =
-    element-apart b at old mid _ _ (source + r) (moved-window later b old first count k has (omega arith)) (moved-apart later b first source count k r towards more low high) moved
+CopiesSome-kept later {b} at {old} mid first source skip count k r towards has more low high moved =
+    element-apart (source + r) (moved-window later b old first count k has (omega arith)) (moved-apart later b first source count k r towards more low high) moved
 
 -- the place of the w elements that are stored last, where m of n are moved then
 abbrev pub part_place : Bool → ℕ → ℕ → ℕ → ℕ
 part_place later w m n = if later then n - m else m - w
 
 -- these may lie over some of the k that were moved before
-pub CopiesSome-part : (later : Bool) (b : ℕ) (at : ℕ → ℕ → ℕ) (old mid new : List ℕ) (first source skip count k m w : ℕ) (list : List Bool) → HasSpan b old old (elements_window b first count) (elements_window_from b source skip count) → k ≤ m → m ≤ k + w → w ≤ m → m ≤ count
+pub CopiesSome-part : (later : Bool) {b : ℕ} {at : ℕ → ℕ → ℕ} {old mid new : List ℕ} (first source skip count k m w : ℕ) {list : List Bool} → HasSpan b old old (elements_window b first count) (elements_window_from b source skip count) → k ≤ m → m ≤ k + w → w ≤ m → m ≤ count
     → CopiesSome later b at old mid first source skip count k → Writes b at mid new (elements_window b (first + part_place later w m count) w) list → list ≡ list_in b at old (elements_window_from b (source + part_place later w m count) skip w)
     → CopiesSome later b at old new first source skip count m
 unfolding window_of
-CopiesSome-part false b at old mid new first source skip count k m w list has more meet some fits before after is =
+CopiesSome-part false {b} {at} {old} first source skip count k m w {list} has more meet some fits before after is =
     let whole = length-memory_bits b at old in
     let bits = memory_bits b at old in
     let inside = mul-le-mul_right b fits in
@@ -136,10 +136,10 @@ CopiesSome-part false b at old mid new first source skip count k m w list has mo
     record {
       bits = after.bits ∙ ap (λ (l : List Bool). write_at l ((first + (m - w)) * b) list) before.bits
           ∙ rw (made, place, len) (over-next bits bits ((first + 0) * b) ((source + 0) * b + skip) ((m - w) * b) (k * b) (w * b) short (omega arith) (omega arith) (omega arith));
-      long = length-list b at old (elements_window_from b (source + 0) skip m) (HasWindow-part b old _ _ has.beside (omega arith) (omega arith));
+      long = length-list at (HasWindow-part _ has.beside (omega arith) (omega arith));
       elements = after.elements ∙ before.elements;
     }
-CopiesSome-part true b at old mid new first source skip count k m w list has more meet some fits before after is =
+CopiesSome-part true {b} {at} {old} first source skip count k m w {list} has more meet some fits before after is =
     let whole = length-memory_bits b at old in
     let bits = memory_bits b at old in
     let inside : (count - m + m) * b ≡ count * b = ap (λ (n : ℕ). n * b) (omega arith) in
@@ -153,7 +153,7 @@ CopiesSome-part true b at old mid new first source skip count k m w list has mor
     record {
       bits = after.bits ∙ ap (λ (l : List Bool). write_at l ((first + (count - m)) * b) list) before.bits
           ∙ rw (is, place, other_place, len) (over-back bits bits ((first + (count - m)) * b) ((source + (count - m)) * b + skip) ((m - k) * b) (w * b) (k * b) short (omega arith) (omega arith) (omega arith));
-      long = length-list b at old (elements_window_from b (source + (count - m)) skip m) (HasWindow-part b old _ _ has.beside (omega arith) (omega arith));
+      long = length-list at (HasWindow-part _ has.beside (omega arith) (omega arith));
       elements = after.elements ∙ before.elements;
     }
 
@@ -166,31 +166,31 @@ nth-part : (later : Bool) (k n : ℕ) → part_place later 1 (k + 1) n ≡ nth_p
 nth-part false k n = omega arith
 nth-part true k n = refl
 
-pub CopiesSome-more : (later : Bool) (b : ℕ) (at : ℕ → ℕ → ℕ) (old mid : List ℕ) (first source skip count k v : ℕ) → 0 < b → HasSpan b old old (elements_window b first count) (elements_window_from b source skip count) → k < count
+pub CopiesSome-more : (later : Bool) {b : ℕ} (at : ℕ → ℕ → ℕ) {old : List ℕ} (mid : List ℕ) (first source skip count k v : ℕ) → 0 < b → HasSpan b old old (elements_window b first count) (elements_window_from b source skip count) → k < count
     → element_bits b at v ≡ list_in b at old (record { start = (source + nth_place later k count) * b + skip; len = b }) → CopiesSome later b at old mid first source skip count k
     → CopiesSome later b at old (slice_set mid (first + nth_place later k count) v) first source skip count (k + 1)
-CopiesSome-more later b at old mid first source skip count k v some has more same before =
+CopiesSome-more later {b} at {old} mid first source skip count k v some has more same before =
     let place = nth-part later k count in
-    let stored = Writes-set b at mid (first + nth_place later k count) v some (next_element b old mid first count _ some has.window (nth-below later k count more) before.elements) in
-    CopiesSome-part later b at old mid _ first source skip count k (k + 1) 1 (element_bits b at v) has (omega arith) (omega arith) (omega arith) (omega arith) before
+    let stored = Writes-set b at mid (first + nth_place later k count) v some (next_element mid first count _ some has.window (nth-below later k count more) before.elements) in
+    CopiesSome-part later {at = at} {mid = mid} first source skip count k (k + 1) 1 {list = element_bits b at v} has (omega arith) (omega arith) (omega arith) (omega arith) before
     (rw place (Writes-same _ (elements_window b (first + nth_place later k count) 1) refl (omega arith) stored))
     (rw place (same ∙ sym (list-same b at old _ (elements_window_from b (source + nth_place later k count) skip 1) refl (omega arith))))
 
 -- what is carried, and read next, and joined of both
-pub list-joined_next : (later : Bool) (b : ℕ) (at : ℕ → ℕ → ℕ) (xs : List ℕ) (source skip count k : ℕ) {K : Type 0} (value : K → ℕ) (last next : K) (pair : K × K) → 0 < skip → skip < b → HasWindow b xs (elements_window_from b source skip count) → k < count
+pub list-joined_next : (later : Bool) {b : ℕ} (at : ℕ → ℕ → ℕ) {xs : List ℕ} (source skip count k : ℕ) {K : Type 0} (value : K → ℕ) (last next : K) {pair : K × K} → 0 < skip → skip < b → HasWindow b xs (elements_window_from b source skip count) → k < count
     → element_bits b at (value last) ≡ element_bits b at (slice_index xs (source + waiting_place later k count)) → element_bits b at (value next) ≡ element_bits b at (slice_index xs (source + waiting_place later (k + 1) count))
     → pair ≡ (if later then (next, last) else (last, next))
     → drop skip (element_bits b at (value pair.0)) ++ take skip (element_bits b at (value pair.1)) ≡ list_in b at xs (record { start = (source + nth_place later k count) * b + skip; len = b })
-list-joined_next false b at xs source skip count k value last next pair some below has more carried read is =
+list-joined_next false {b} at {xs} source skip count k value last next some below has more carried read is =
     let place : source + (k + 1) ≡ source + k + 1 = omega arith in
     rw (is, carried, read, place) (sym (list-both b at xs (source + k) skip below (next-inside b xs xs source skip count k has some more refl)))
-list-joined_next true b at xs source skip count k value last next pair some below has more carried read is =
+list-joined_next true {b} at {xs} source skip count k value last next some below has more carried read is =
     let place : source + (count - k) ≡ source + (count - (k + 1)) + 1 = omega arith in
     rw (is, carried, read, place) (sym (list-both b at xs (source + (count - (k + 1))) skip below (next-inside b xs xs source skip count (count - (k + 1)) has some (omega arith) refl)))
 
-pub list-whole_next : (later : Bool) (b : ℕ) (at : ℕ → ℕ → ℕ) (xs : List ℕ) (source count k : ℕ) → 0 < b → HasWindow b xs (elements_window_from b source 0 count) → k < count
+pub list-whole_next : (later : Bool) {b : ℕ} (at : ℕ → ℕ → ℕ) {xs : List ℕ} (source count k : ℕ) → 0 < b → HasWindow b xs (elements_window_from b source 0 count) → k < count
     → element_bits b at (slice_index xs (source + nth_place later k count)) ≡ list_in b at xs (record { start = (source + nth_place later k count) * b + 0; len = b })
-list-whole_next later b at xs source count k some has more =
+list-whole_next later {b} at {xs} source count k some has more =
     let e : ℕ = source + nth_place later k count in
     let order = mul-le-mul_left b (nth-below later k count more) in
     let zero : e * b + 0 ≡ e * b = omega arith in
@@ -202,8 +202,8 @@ list-whole_next later b at xs source count k some has more =
 pub Copies-placed : (b : ℕ) (at : ℕ → ℕ → ℕ) (old new other : List ℕ) (part source to from : Window) → HasWindow b old part → HasWindow b old to → part.len ≡ to.len → source.len ≡ to.len → from.len ≡ to.len
     → to.len ≡ 0 ⊎ (part.start ≡ to.start × source.start ≡ from.start) → Copies b at old new part other source → Copies b at old new to other from
 Copies-placed b at old new other part source to from has there len source_len from_len (inl none) copies =
-    let here = (within-list b at old part has).start in
-    let place = (within-list b at old to there).start in
+    let here = (within-list at has).start in
+    let place = (within-list at there).start in
     let nothing = list-empty b at other source (source_len ∙ none) in
     let still = list-empty b at other from (from_len ∙ none) in
     record {
@@ -217,12 +217,12 @@ Copies-placed b at old new other part source to from has there len source_len fr
 Copies-placed b at old new other part source to from has there len source_len from_len (inr same) copies =
     rw (sym same.0, sym len, sym same.1, from_len ∙ sym source_len) copies
 
-pub Copies-parted : (b : ℕ) (at : ℕ → ℕ → ℕ) (old mid next new : List ℕ) (to from : Window) (t : ℕ) (front back : List Bool) → 0 < b → HasSpan b old old to from → t ≡ min to.len (b - to.start % b)
+pub Copies-parted : {b : ℕ} {at : ℕ → ℕ → ℕ} {old mid next new : List ℕ} {to from : Window} {t : ℕ} {front back : List Bool} → 0 < b → HasSpan b old old to from → t ≡ min to.len (b - to.start % b)
     → CopiesElements b at old mid old ((to.start + t) / b) ((from.start + t) / b) ((from.start + t) % b) ((to.len - t) / b)
     → Writes b at mid next (window_until (to.len - t) to) front → front ≡ list_in b at old (window_until (from.len - t) from)
     → Writes b at next new (window_after ((to.len - t) / b * b) (window_after t to)) back → back ≡ list_in b at old (window_after ((to.len - t) / b * b) (window_after t from))
     → Copies b at old new to old from
-Copies-parted b at old mid next new to from t front back some has long whole head front-is tail back-is =
+Copies-parted {b} {at} {old} {mid} {next} {new} {to} {from} {t} some has long whole head front-is tail back-is =
     let m : ℕ = (to.len - t) / b * b in
     let fits : m ≤ to.len - t = omega (arith, div-add-mod' (to.len - t) b) in
     let elements : Window = record { start = to.start + t; len = m } in
@@ -239,17 +239,17 @@ Copies-parted b at old mid next new to from t front back some has long whole hea
     (record { fits = has.window.fits; within = record { start = omega arith; len = omega arith } })
     (record { fits = has.window.fits; within = record { start = omega arith; len = omega arith } })
     refl refl refl left whole in
-    Writes-is b at old new to _ _
-    (Writes-join b at old next new both (window_after m (window_after t to)) to _ _ has.window refl (omega arith) (omega arith)
-    (Writes-join_back b at old mid next (window_until (to.len - t) to) elements both _ _
+    Writes-is
+    (Writes-join has.window refl (omega arith) (omega arith)
+    (Writes-join_back b at old mid next (window_until (to.len - t) to) elements both
     (record { fits = has.window.fits; within = record { start = omega arith; len = omega arith } })
-    refl (omega arith) (omega arith) middle (Writes-is b at mid next _ _ _ head front-is))
-    (Writes-is b at next new _ _ _ tail back-is))
+    refl (omega arith) (omega arith) middle (Writes-is head front-is))
+    (Writes-is tail back-is))
     (ap (λ (l : List Bool). l ++ list_in b at old (window_after m (window_after t from)))
-    (list-join b at old (window_until (from.len - t) from) source source_both
+    (list-join {b = b} at {xs = old} (window_until (from.len - t) from) source {whole = source_both}
     (record { fits = has.beside.fits; within = record { start = omega arith; len = omega arith } })
     refl (omega arith) (omega arith))
-    ∙ list-join b at old source_both (window_after m (window_after t from)) from has.beside refl (omega arith) (omega arith))
+    ∙ list-join at source_both (window_after m (window_after t from)) has.beside refl (omega arith) (omega arith))
 
 -- ---- what a move may load and store beside
 
@@ -276,9 +276,9 @@ late-stored b s n some =
     let bytes = late-bytes s n in
     grind (arith, nat_tests)
 
-pub late-read : (b s m n : ℕ) → 0 < b → n ≡ m → 64 < n → touched_count b s m + 4 + late_words b n ≤ edit_loads b true n
+pub late-read : (b s : ℕ) {m n : ℕ} → 0 < b → n ≡ m → 64 < n → touched_count b s m + 4 + late_words b n ≤ edit_loads b true n
 unfolding write_loads write_stores read_loads work_steps
-late-read b s m n some same many = let room = late-stored b s n some in rw (← same) (omega arith)
+late-read b s {m} {n} some same many = let room = late-stored b s n some in rw (← same) (omega arith)
 
 -- ---- the elements that two parts touch
 

@@ -15,9 +15,9 @@ use Rattle.bitvec_move.proofs.WithinLaws.{list-ahead, part_place}
 -- ---- lists
 
 -- an element's bits in a word
-pub placed-range : (list : List Bool) (b to : ℕ) → length list ≡ b → to + b ≤ 64 → slice_range (write_at (replicate 64 false) to (slice_range list 0 (0 + b))) to (to + b) ≡ list
+pub placed-range : {list : List Bool} {b : ℕ} (to : ℕ) → length list ≡ b → to + b ≤ 64 → slice_range (write_at (replicate 64 false) to (slice_range list 0 (0 + b))) to (to + b) ≡ list
 unfolding write_at
-placed-range list b to long fits = same_lists _ _ (search (rules, places)) (λ k d inside. grind (arith, places))
+placed-range to long fits = same_lists _ _ (search (rules, places)) (λ k d inside. grind (arith, places))
 
 -- as many values as a slice has, which begin inside it or inside what stands before it. The others are a word's first or last ones
 list-behind_word : (list word : List Bool) (a b n skip : ℕ) → skip < b → b ≤ n → length word ≡ n → a + n + b ≤ length list → slice_range word 0 b ≡ slice_range list (a + n) (a + n + b)
@@ -59,7 +59,7 @@ word-byte : (at : ℕ → ℕ → ℕ) (xs : List ℕ) (e i : ℕ) → i < 8 →
 word-byte at xs e i below has =
     let place : e * 8 + i * 8 ≡ (e + i) * 8 = omega arith in
     let len : i * 8 + 8 - i * 8 ≡ 8 = omega arith in
-    sym (list-range 8 at xs (elements_window 8 e 8) (i * 8) (i * 8 + 8) has (omega arith) (omega arith))
+    sym (list-range at (i * 8) (i * 8 + 8) has (omega arith) (omega arith))
     ∙ rw (place, len) (list-whole 8 at xs (e + i) (omega arith))
 
 -- a word of the bytes that are read lies in the memory
@@ -80,44 +80,44 @@ abbrev pub carried_place : Bool → ℕ
 carried_place later = if later then 0 else 56
 
 -- what is read is as it was
-pub word-left : (later : Bool) (at : ℕ → ℕ → ℕ) (old now : List ℕ) (first source skip count k : ℕ) → IsToward later first source → HasSkippedElements 8 old old first source skip count → k + 8 ≤ count → CopiesSome later 8 at old now first source skip count k
+pub word-left : (later : Bool) (at : ℕ → ℕ → ℕ) {old : List ℕ} (now : List ℕ) {first source skip count : ℕ} (k : ℕ) → IsToward later first source → HasSkippedElements 8 old old first source skip count → k + 8 ≤ count → CopiesSome later 8 at old now first source skip count k
     → list_in 8 at now (elements_window 8 (source + next_place later (k + 8) count) 8) ≡ list_in 8 at old (elements_window 8 (source + next_place later (k + 8) count) 8)
-word-left false at old now first source skip count k towards has fits moved =
-    list-behind 8 at old now (elements_window 8 (first + 0) k) (elements_window 8 (source + (k + 8 - 8 + 1)) 8) _
-    (HasWindow-part 8 old _ _ has.span.window (omega arith) (omega arith))
+word-left false at {old} now {first} {source} {skip} {count} k towards has fits moved =
+    list-behind
+    (HasWindow-part _ has.span.window (omega arith) (omega arith))
     (word-window old first source skip count (source + (k + 8 - 8 + 1)) has (omega arith) (omega arith))
     (omega arith) moved
-word-left true at old now first source skip count k towards has fits moved =
-    list-ahead 8 at old now (elements_window 8 (first + (count - k)) k) (elements_window 8 (source + (count - (k + 8) + 0)) 8) _
-    (HasWindow-part 8 old _ _ has.span.window (omega arith) (omega arith))
+word-left true at {old} now {first} {source} {skip} {count} k towards has fits moved =
+    list-ahead (elements_window 8 (source + (count - (k + 8) + 0)) 8)
+    (HasWindow-part _ has.span.window (omega arith) (omega arith))
     (omega arith) moved
 
 -- its byte that is carried then
-pub word-carried : (later : Bool) (at : ℕ → ℕ → ℕ) (xs : List ℕ) (first source skip count k : ℕ) → HasSkippedElements 8 xs xs first source skip count → k + 8 ≤ count
+pub word-carried : (later : Bool) (at : ℕ → ℕ → ℕ) {xs : List ℕ} {first source skip count : ℕ} (k : ℕ) → HasSkippedElements 8 xs xs first source skip count → k + 8 ≤ count
     → slice_range (list_in 8 at xs (elements_window 8 (source + next_place later (k + 8) count) 8)) (carried_place later) (carried_place later + 8) ≡ element_bits 8 at (slice_index xs (source + waiting_place later (k + 8) count))
-word-carried false at xs first source skip count k has fits =
+word-carried false at {xs} {first} {source} {skip} {count} k has fits =
     word-byte at xs (source + (k + 8 - 8 + 1)) 7 (omega arith) (word-window xs first source skip count (source + (k + 8 - 8 + 1)) has (omega arith) (omega arith))
     ∙ ap (λ (e : ℕ). element_bits 8 at (slice_index xs e)) (omega arith)
-word-carried true at xs first source skip count k has fits =
+word-carried true at {xs} {first} {source} {skip} {count} k has fits =
     word-byte at xs (source + (count - (k + 8) + 0)) 0 (omega arith) (word-window xs first source skip count (source + (count - (k + 8) + 0)) has (omega arith) (omega arith))
     ∙ ap (λ (e : ℕ). element_bits 8 at (slice_index xs e)) (omega arith)
 
 -- the word that is stored, joined of it and of the carried one
-pub word-joined : (later : Bool) (at : ℕ → ℕ → ℕ) (xs : List ℕ) (first source skip count k last next : ℕ) (pair : ℕ × ℕ) → HasSkippedElements 8 xs xs first source skip count → k + 8 ≤ count
+pub word-joined : (later : Bool) (at : ℕ → ℕ → ℕ) {xs : List ℕ} {first source skip count : ℕ} (k last next : ℕ) {pair : ℕ × ℕ} → HasSkippedElements 8 xs xs first source skip count → k + 8 ≤ count
     → slice_range (element_bits 64 at last) (carried_place later) (carried_place later + 8) ≡ element_bits 8 at (slice_index xs (source + waiting_place later k count))
     → element_bits 64 at next ≡ list_in 8 at xs (elements_window 8 (source + next_place later (k + 8) count) 8) → pair ≡ (if later then (next, last) else (last, next))
     → drop (carried_place later + skip) (element_bits 64 at pair.0) ++ take (carried_place later + skip) (element_bits 64 at pair.1) ≡ list_in 8 at xs (elements_window_from 8 (source + word_place later (k + 8) count) skip 8)
-word-joined false at xs first source skip count k last next pair has fits carried read is =
+word-joined false at {xs} {first} {source} {skip} k last next has fits carried read is =
     let here : k + 8 - 8 ≡ k = omega arith in
     let behind : source + (k + 8 - 8 + 1) ≡ source + k + 1 = omega arith in
     rw (is, rw behind at read, here)
-    (word-before at xs (source + k) skip _ (HasWindow-part 8 xs _ _ has.span.beside (omega arith) (omega arith)) has.inside has.bound (length-element_bits 64 at last) carried)
-word-joined true at xs first source skip count k last next pair has fits carried read is =
+    (word-before at xs (source + k) skip _ (HasWindow-part _ has.span.beside (omega arith) (omega arith)) has.inside has.bound (length-element_bits 64 at last) carried)
+word-joined true at {xs} {first} {source} {skip} {count} k last next has fits carried read is =
     let here : source + (count - (k + 8) + 0) ≡ source + (count - (k + 8)) = omega arith in
     let behind : source + (count - k) ≡ source + (count - (k + 8)) + 8 = omega arith in
     let none : 0 + skip ≡ skip = omega arith in
     rw (is, rw here at read, none)
-    (word-behind at xs (source + (count - (k + 8))) skip _ (HasWindow-part 8 xs _ _ has.span.beside (omega arith) (omega arith)) has.inside has.bound (length-element_bits 64 at last) (rw behind at carried))
+    (word-behind at xs (source + (count - (k + 8))) skip _ (HasWindow-part _ has.span.beside (omega arith) (omega arith)) has.inside has.bound (length-element_bits 64 at last) (rw behind at carried))
 
 moved_all : (later : Bool) (n : ℕ) → moved_place later n n ≡ 0
 moved_all false n = refl

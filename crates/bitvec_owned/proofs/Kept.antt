@@ -70,16 +70,16 @@ module _ {P : Type 0} (g : Mut P (ℕ × (Bor Bool × Unit {0})) Bool) where
     pub moved-none : (now : List ℕ) → now ≡ old → Moved first b at old window first now 0 0
     moved-none now same =
         subst (λ (xs : List ℕ). Moved first b at old window first xs 0 0) (sym same)
-        (record { order = omega arith; writes = Writes-nothing b at old old window has refl; rest = refl; asked = λ more is. is })
+        (record { order = omega arith; writes = Writes-nothing at old has refl; rest = refl; asked = λ more is. is })
 
     module _ (pred : P) (now : List ℕ) (index kept : ℕ) (done : Moved first b at old window pred now index kept) where
       pub moved-window : HasWindow b now window
-      moved-window = HasWindow-kept b old now window has done.writes.elements
+      moved-window = HasWindow-kept now has done.writes.elements
 
       -- the bits that were kept, when all were asked about
       pub moved-all : window.len ≤ index → IsFiltered (AsksNext g) (0, first) (list_in b at old window) (take kept (list_in b at now window))
       moved-all past =
-          let long = length-list b at old window has in
+          let long = length-list at has in
           subst (λ (l : List Bool). IsFiltered (AsksNext g) (0, first) (list_in b at old window) l) (append-nil (take kept (list_in b at now window)))
           (done.asked [] (keeps-none (list_in b at old window) index pred (omega arith)))
 
@@ -91,7 +91,7 @@ module _ {P : Type 0} (g : Mut P (ℕ × (Bor Bool × Unit {0})) Bool) where
 
         pub moved-no : Asks g pred index bit false next → Moved first b at old window next now (index + 1) kept
         moved-no asks =
-            let long = length-list b at old window has in
+            let long = length-list at has in
             let order = done.order in
             let asked = subst (λ (x : Bool). Asks g pred index x false next) moved-bit asks in
             record {
@@ -106,14 +106,14 @@ module _ {P : Type 0} (g : Mut P (ℕ × (Bor Bool × Unit {0})) Bool) where
         moved-yes after asks wrote =
             let before = list_in b at old window in
             let list = list_in b at now window in
-            let long = length-list b at old window has in
-            let size = length-list b at now window moved-window in
+            let long = length-list at has in
+            let size = length-list at moved-window in
             let order = done.order in
-            let held : list_in b at after window ≡ slice_set list kept bit = Writes-holds b at now after window _ moved-window wrote in
+            let held : list_in b at after window ≡ slice_set list kept bit = Writes-holds moved-window wrote in
             let asked = subst (λ (x : Bool). Asks g pred index x true next) moved-bit asks in
             record {
               order = omega arith;
-              writes = Writes-is b at old after window _ _ (Writes-then b at old now after window list _ has done.writes wrote) (sym held);
+              writes = Writes-is (Writes-then has done.writes wrote) (sym held);
               rest = ap (drop (kept + 1)) held ∙ set-behind list kept bit (omega arith) ∙ sym (drop-drop 1 kept list) ∙ ap (drop 1) done.rest ∙ drop-drop 1 kept before;
               asked = λ more is.
                   subst (λ (l : List Bool). IsFiltered (AsksNext g) (0, first) before l)

@@ -48,7 +48,7 @@ padded-word b at n element word list short fits put is =
 pub few-stored : (b : ℕ) (at : ℕ → ℕ → ℕ) (n element word : ℕ) → n ≤ b → n ≤ 64 → element_bits b at element ≡ write_at (replicate b false) 0 (slice_range (element_bits 64 at word) 0 (0 + n)) → take n (element_bits b at element) ≡ take n (element_bits 64 at word)
 few-stored b at n element word short fits put =
     let wide = length-element_bits 64 at word in
-    take-word b n _ _ (put ∙ padded-moved b n (element_bits 64 at word) (omega arith) short) (sym (length-first (element_bits 64 at word) n (omega arith)))
+    take-word b _ (put ∙ padded-moved b n (element_bits 64 at word) (omega arith) short) (sym (length-first (element_bits 64 at word) n (omega arith)))
 
 pub few-touched : (b s n : ℕ) → 0 < b → n ≤ b → touched_count b s n ≤ fill_loads n
 few-touched b s zero some short = let none = touched-none b s in omega arith
@@ -104,12 +104,12 @@ module _ (b : ℕ) (window : Window) (width : IsWidth b) (narrow : b < 64) (size
       element-joined 64 at kept moved skip (take skip (element_bits b at head)) (take (64 - skip) bits) (sym front) (omega arith)
       (low-bits ∙ padded-moved 64 skip (element_bits b at head) (omega arith) (omega arith))
       (high-bits ∙ ap (write_at (replicate 64 false) skip) (range-from_start bits (64 - skip) (0 + (64 - skip)) (omega arith)))
-      ∙ padded-all 64 _ (omega (arith, length-append {A = Bool}))
+      ∙ padded-all {b = 64} (omega (arith, length-append {A = Bool}))
       ∙ ap (λ (v : ℕ). take skip (element_bits b at v) ++ take (64 - skip) bits) loaded
-      ∙ ap (λ (l : List Bool). l ++ take (64 - skip) bits) (sym (first-values b at old first (64 / b) skip some here has-elements below (omega arith))) in
-      Writes-is b at old new window _ _
-      (Writes-join b at old mid new begin (part_window b (record { element = first + 64 / b; from = 0; to = skip })) window _ _ has refl (omega arith) (omega arith)
-      (Writes-behind b at old mid elements begin skip (take (64 - skip) bits) has-elements (sym place) (omega arith) rest (Writes-is b at old mid elements _ _ before stored))
+      ∙ ap (λ (l : List Bool). l ++ take (64 - skip) bits) (sym (first-values at first (64 / b) skip some here has-elements below (omega arith))) in
+      Writes-is
+      (Writes-join {new = new} {second = part_window b (record { element = first + 64 / b; from = 0; to = skip })} has refl (omega arith) (omega arith)
+      (Writes-behind b at old mid elements begin skip (take (64 - skip) bits) has-elements (sym place) (omega arith) rest (Writes-is before stored))
       after)
       (ap (λ (l : List Bool). take (64 - skip) bits ++ slice_range l 0 skip) last-bits
       ∙ word-tail bits b skip wide below narrow
@@ -126,7 +126,7 @@ same-words at permutes v w xs ys small other long left right =
     same_from_decides _ _ (Decides-eqb v w)
     (Decides-like (same_bits xs ys)
     (λ h. element_bits-fix 64 at (permutes 64 word_width) v w small other (left ∙ ap (padded 64) h ∙ sym right))
-    (λ e. sym (take-word 64 (length xs) _ xs left refl) ∙ ap (λ (n : ℕ). take (length xs) (element_bits 64 at n)) e ∙ take-word 64 (length xs) _ ys right long)
+    (λ e. sym (take-word 64 {n = length xs} xs left refl) ∙ ap (λ (n : ℕ). take (length xs) (element_bits 64 at n)) e ∙ take-word 64 ys right long)
     (same_bits-decides xs ys))
 
 -- zeros behind a list are no ones

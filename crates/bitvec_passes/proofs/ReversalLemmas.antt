@@ -11,9 +11,9 @@ use Rattle.bitvec_cells.specs.Cost.{work_steps}
 use Rattle.bitvec_passes.specs.Ends.{ends_exchanged}
 
 -- at first all values are as they were
-pub mirrored-none : {X : Type 0} (list : List X) (n : ℕ) → n ≡ length list → write_at (reverse list) 0 (slice_range list 0 (n - 0)) ≡ list
+pub mirrored-none : {X : Type 0} {list : List X} {n : ℕ} → n ≡ length list → write_at (reverse list) 0 (slice_range list 0 (n - 0)) ≡ list
 unfolding write_at
-mirrored-none list n all = same_lists _ _ (search (rules, places, length-reverse)) (λ i d inside. grind (arith, places, get_or-reverse, length-reverse))
+mirrored-none all = same_lists _ _ (search (rules, places, length-reverse)) (λ i d inside. grind (arith, places, get_or-reverse, length-reverse))
 
 -- in the end at most one is left
 pub mirrored-all : {X : Type 0} (list : List X) (low n : ℕ) → n ≡ length list → low ≤ n - low → n - low ≤ low + 1 → write_at (reverse list) low (slice_range list low (n - low)) ≡ reverse list
@@ -27,30 +27,30 @@ unfolding ends_exchanged write_at
 mirrored-next list low high k ends apart = same_lists _ _ (search (rules, places, length-reverse)) (λ i d inside. grind (arith, places, get_or-reverse, length-reverse))
 
 -- k bits a side of a window are exchanged
-pub Writes-ends : (b : ℕ) (at : ℕ → ℕ → ℕ) (old mid new : List ℕ) (window : Window) (low high k : ℕ) (front back : List Bool)
+pub Writes-ends : {b : ℕ} (at : ℕ → ℕ → ℕ) {old mid new : List ℕ} {window : Window} (low high k : ℕ) {front back : List Bool}
     → HasWindow b old window → low + k + k ≤ high → high ≤ window.len
     → Writes b at old mid (window_range window low (low + k)) front → front ≡ reverse (list_in b at old (window_range window (high - k) high))
     → Writes b at mid new (window_range window (high - k) high) back → back ≡ reverse (list_in b at old (window_range window low (low + k)))
     → Edits b at old new window (ends_exchanged low high k)
 unfolding ends_exchanged
-Writes-ends b at old mid new window low high k front back has apart bound before front_is after back_is =
+Writes-ends {b} at {old} {mid} {new} {window} low high k has apart bound before front_is after back_is =
     let list = list_in b at old window in
-    let first = Writes-range b at old mid window low (low + k) _ has (omega arith) (omega arith)
-    (Writes-is _ _ _ _ _ _ _ before (front_is ∙ ap reverse (list-range b at old window (high - k) high has (omega arith) bound))) in
-    let kept = HasWindow-kept b old mid window has first.elements in
-    let second = Writes-range b at mid new window (high - k) high _ kept (omega arith) bound
-    (Writes-is _ _ _ _ _ _ _ after (back_is ∙ ap reverse (list-range b at old window low (low + k) has (omega arith) (omega arith)))) in
+    let first = Writes-range low (low + k) has (omega arith) (omega arith)
+    (Writes-is before (front_is ∙ ap reverse (list-range at (high - k) high has (omega arith) bound))) in
+    let kept = HasWindow-kept mid has first.elements in
+    let second = Writes-range (high - k) high kept (omega arith) bound
+    (Writes-is after (back_is ∙ ap reverse (list-range at low (low + k) has (omega arith) (omega arith)))) in
     Writes-next (λ l. write_at l (high - k) (reverse (slice_range list low (low + k)))) has first second refl
 
 -- so are those of what is left
-pub Writes-mirrored : (b : ℕ) (at : ℕ → ℕ → ℕ) (old mid new : List ℕ) (window : Window) (low k : ℕ) → HasWindow b old window → low + k + (low + k) ≤ window.len
+pub Writes-mirrored : {b : ℕ} (at : ℕ → ℕ → ℕ) {old : List ℕ} (mid new : List ℕ) {window : Window} (low k : ℕ) → HasWindow b old window → low + k + (low + k) ≤ window.len
     → (let list = list_in b at old window in
     Writes b at old mid window (write_at (reverse list) low (slice_range list low (window.len - low)))
     → Edits b at mid new window (ends_exchanged low (window.len - low) k)
     → Writes b at old new window (write_at (reverse list) (low + k) (slice_range list (low + k) (window.len - (low + k)))))
-Writes-mirrored b at old mid new window low k has apart before after =
+Writes-mirrored {b} at {old} mid new {window} low k has apart before after =
     let list = list_in b at old window in
-    let long = length-list b at old window has in
+    let long = length-list at has in
     let end : window.len - (low + k) ≡ window.len - low - k = omega arith in
     Writes-next (ends_exchanged low (window.len - low) k) has before after (rw end (mirrored-next list low (window.len - low) k (omega arith) (omega arith)))
 

@@ -24,26 +24,26 @@ front_of : (list : List Bool) (t : ℕ) → t ≡ length list → slice_range (p
 unfolding padded
 front_of list t long = same_lists _ _ (search (rules, places)) (λ k d inside. grind (arith, places))
 
-pub gathered-next : (b : ℕ) (at to : ℕ → ℕ → ℕ) (xs : List ℕ) (window rest : Window) (t n word element first moved : ℕ) → 0 < b → 0 < rest.len → window.len ≤ 64 → t ≡ (first_part_of b rest).to - (first_part_of b rest).from → n ≡ window.len - rest.len → HasWindow b xs window → Walked b window rest
+pub gathered-next : {b : ℕ} (at to : ℕ → ℕ → ℕ) {xs : List ℕ} {window rest : Window} {t n : ℕ} (word : ℕ) {element : ℕ} (first moved : ℕ) → 0 < b → 0 < rest.len → window.len ≤ 64 → t ≡ (first_part_of b rest).to - (first_part_of b rest).from → n ≡ window.len - rest.len → HasWindow b xs window → Walked b window rest
     → element ≡ slice_index xs (first_part_of b rest).element
     → element_bits 64 to first ≡ padded 64 (slice_range (element_bits b at element) (first_part_of b rest).from (first_part_of b rest).to)
     → element_bits 64 to moved ≡ write_at (replicate 64 false) n (slice_range (element_bits 64 to first) 0 (0 + t))
     → element_bits 64 to word ≡ padded 64 (list_in b at xs (passed window rest))
     → element_bits 64 to (bit_or word moved) ≡ padded 64 (list_in b at xs (passed window (window_after t rest)))
-gathered-next b at to xs window rest t n word element first moved some more size step count has walk loaded gathered put held =
+gathered-next {b} at to {xs} {window} {rest} {t} {n} word {element} first moved some more size step count has walk loaded gathered put held =
     let start = walk.start in
     let end = walk.end in
     let part = first_part_of b rest in
     let len = first-len b rest some more in
-    let before = length-passed b at xs window rest has walk in
+    let before = length-passed at has walk in
     let next = length-first_part b at xs window rest some more has walk in
-    let holds = list-part b at xs part (HasPart-first b xs window rest some more has walk) in
+    let holds = list-part at (HasPart-first some more has walk) in
     let bits : slice_range (element_bits b at element) part.from part.to ≡ list_in b at xs (part_window b part) =
     ap (λ (v : ℕ). slice_range (element_bits b at v) part.from part.to) loaded ∙ sym holds in
     let front : slice_range (element_bits 64 to first) 0 (0 + t) ≡ list_in b at xs (part_window b part) =
     ap (λ (l : List Bool). slice_range l 0 (0 + t)) (gathered ∙ ap (padded 64) bits) ∙ front_of (list_in b at xs (part_window b part)) t (omega arith) in
     element-joined 64 to word moved n (list_in b at xs (passed window rest)) (list_in b at xs (part_window b part)) (omega arith) (omega arith) held (put ∙ ap (λ (l : List Bool). write_at (replicate 64 false) n l) front)
-    ∙ ap (padded 64) (list-next b at xs window rest t some more step has walk)
+    ∙ ap (padded 64) (list-next at some more step has walk)
 
 -- ---- eight bits more
 

@@ -51,8 +51,8 @@ module _ (b : ℕ) (at : ℕ → ℕ → ℕ) (xs : List ℕ) (window : Window) 
 
   past : (i : ℕ) → count ≤ i → i < 64 → slice_index_or (element_bits 64 (λ b i. i) seen) i false ≡ false
   past i behind below =
-      let held = HasWindow-range b xs (window_range window rest.front rest.back) 0 count (HasWindow-range b xs window rest.front rest.back has (omega arith) bound) (omega arith) front.within in
-      bit_seen i below ∙ window-past (memory_bits b at xs) part i false (within-list b at xs part held) (omega arith)
+      let held = HasWindow-range 0 count (HasWindow-range rest.front rest.back has (omega arith) bound) (omega arith) front.within in
+      bit_seen i below ∙ window-past (memory_bits b at xs) part i false (within-list at held) (omega arith)
 
   -- where the ones are wanted
   pub shows-ones : Shows 64 (λ b i. i) seen seen 0 count true
@@ -166,24 +166,24 @@ module _ (want : Bool) (list : List Bool) (rest : Rest) (kept : Kept) (keeps : K
 
 -- ---- a whole word
 
-ended_word : (want : Bool) (list : List Bool) (rest : Rest) (kept : Kept) → Keeps want list rest kept → rest.back ≤ kept.edge → kept.ones ≡ 0 → places_in want list rest.front rest.back ≡ map (λ place. kept.base + place) (word_ones kept.ones)
-ended_word want list rest kept keeps past none =
+ended_word : {want : Bool} {list : List Bool} {rest : Rest} {kept : Kept} → Keeps want list rest kept → rest.back ≤ kept.edge → kept.ones ≡ 0 → places_in want list rest.front rest.back ≡ map (λ place. kept.base + place) (word_ones kept.ones)
+ended_word {want} {list} {rest} {kept} keeps past none =
     none-left want list rest kept keeps none past ∙ ap (map (λ place. kept.base + place)) (sym (ones-none kept.ones none))
 
 -- one that has the rest up to its end has all of its places, of which there are at most n
-word_places : (n : ℕ) (want : Bool) (list : List Bool) (rest : Rest) (kept : Kept) → Keeps want list rest kept → rest.back ≤ kept.edge → kept.ones < 2 ^ 64 → length (word_ones kept.ones) ≤ n → places_in want list rest.front rest.back ≡ map (λ place. kept.base + place) (word_ones kept.ones)
-word_places zero want list rest kept keeps past fits few =
-    ⊎_elim (λ (none : kept.ones ≡ 0). ended_word want list rest kept keeps past none)
+word_places : (n : ℕ) {want : Bool} {list : List Bool} {rest : Rest} {kept : Kept} → Keeps want list rest kept → rest.back ≤ kept.edge → kept.ones < 2 ^ 64 → length (word_ones kept.ones) ≤ n → places_in want list rest.front rest.back ≡ map (λ place. kept.base + place) (word_ones kept.ones)
+word_places zero {want} {list} {rest} {kept} keeps past fits few =
+    ⊎_elim (λ (none : kept.ones ≡ 0). ended_word keeps past none)
     (λ (some : kept.ones ≢ 0). let long = ap length (ones-lowest kept.ones some fits) in absurd (omega arith)) (cases_eq kept.ones 0)
-word_places (suc n) want list rest kept keeps past fits few =
-    ⊎_elim (λ (none : kept.ones ≡ 0). ended_word want list rest kept keeps past none)
+word_places (suc n) {want} {list} {rest} {kept} keeps past fits few =
+    ⊎_elim (λ (none : kept.ones ≡ 0). ended_word keeps past none)
     (λ (some : kept.ones ≢ 0).
     let lowest = ones-lowest kept.ones some fits in
     let long = ap length lowest in
     let less = and_le_l kept.ones (kept.ones - 1) in
     found-taken want list rest kept keeps some fits
     ∙ ap (λ (l : List ℕ). (kept.base + trailing_zeros w64 kept.ones) ∷ l)
-    (word_places n want list (record { front = kept.base + trailing_zeros w64 kept.ones + 1; back = rest.back }) (record kept { ones = bit_and kept.ones (kept.ones - 1) }) (kept-taken want list rest kept keeps some fits) past (omega arith) (omega arith))
+    (word_places n (kept-taken want list rest kept keeps some fits) past (omega arith) (omega arith))
     ∙ ap (map (λ place. kept.base + place)) (sym lowest))
     (cases_eq kept.ones 0)
 
@@ -194,7 +194,7 @@ module _ (want : Bool) (list : List Bool) (rest : Rest) (kept : Kept) (keeps : K
       let order = keeps.order in
       let cut = kept-part want list rest kept keeps (record { front = rest.front; back = kept.edge }) kept.ones (omega arith) order within
       (λ i below set. let at = keeps.inside i below set in (set, at.0, at.2)) (λ i below set low high. set) in
-      word_places (length (word_ones kept.ones)) want list (record { front = rest.front; back = kept.edge }) kept cut (omega arith) fits (omega arith)
+      word_places (length (word_ones kept.ones)) cut (omega arith) fits (omega arith)
 
 -- the places of a rest's first bits, which were loaded as a word, of which the ones of `m` are the wanted
 module _ (b : ℕ) (at : ℕ → ℕ → ℕ) (xs : List ℕ) (window : Window) (rest : Rest) (word count : ℕ) (has : HasWindow b xs window) (some : rest.front < rest.back) (bound : rest.back ≤ window.len)
@@ -210,4 +210,4 @@ module _ (b : ℕ) (at : ℕ → ℕ → ℕ) (xs : List ℕ) (window : Window) 
   front-ones = front-places true word (shows-ones b at xs window rest word (turned_word at word) count has some bound front (turned-is at word))
 
   pub front-zeros : (m : ℕ) → Shows 64 at word m 0 count false → places_in false (list_in b at xs window) rest.front (rest.front + count) ≡ map (λ place. rest.front + place) (order_ones at m)
-  front-zeros m shows = front-places false m (shows-turned at word m 0 count false shows)
+  front-zeros m shows = front-places false m (shows-turned shows)

@@ -48,8 +48,8 @@ module _ (at : ℕ → ℕ → ℕ) (word : ℕ) where
       rw place (sym (get-element_bits 64 (λ b i. i) ones k false h) ∙ ap (λ (l : List Bool). slice_index_or l k false) is ∙ get-element_bits 64 at word k false h))
 
 -- what is shown of a word is shown of both turned
-pub shows-turned : (at : ℕ → ℕ → ℕ) (v m from to : ℕ) (want : Bool) → Shows 64 at v m from to want → Shows 64 (λ b i. i) (turned_word at v) (turned_word at m) from to want
-shows-turned at v m from to want shows =
+pub shows-turned : {at : ℕ → ℕ → ℕ} {v m from to : ℕ} {want : Bool} → Shows 64 at v m from to want → Shows 64 (λ b i. i) (turned_word at v) (turned_word at m) from to want
+shows-turned {at} {v} {m} shows =
     let of_v = λ (i : ℕ). ap (λ (l : List Bool). slice_index_or l i false) (turned-is at v) in
     let of_m = λ (i : ℕ). ap (λ (l : List Bool). slice_index_or l i false) (turned-is at m) in
     record {

@@ -14,10 +14,10 @@ use Rattle.bitvec_places.proofs.PlacesLaws.{places-empty, places-absent, places-
 
 module _ (b : ℕ) (at : ℕ → ℕ → ℕ) (xs : List ℕ) (window : Window) (rest : Rest) (wanted : Bool) (has : HasWindow b xs window) (inside : IsRestOf rest window.len) where
   bound : rest.back ≤ length (list_in b at xs window)
-  bound = let long = length-list b at xs window has in let most = inside.bound in omega arith
+  bound = let long = length-list at has in let most = inside.bound in omega arith
 
   same : list_in b at xs (window_range window rest.front rest.back) ≡ slice_range (list_in b at xs window) rest.front rest.back
-  same = list-range b at xs window rest.front rest.back has inside.order inside.bound
+  same = list-range at rest.front rest.back has inside.order inside.bound
 
   module _ (i : ℕ) (found : Some i ≡ first_place wanted (list_in b at xs (window_range window rest.front rest.back))) where
     here : Some i ≡ first_place wanted (slice_range (list_in b at xs window) rest.front rest.back)

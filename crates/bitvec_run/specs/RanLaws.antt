@@ -25,8 +25,8 @@ unfolding window_of
 list-whole b at xs = let long = length-memory_bits b at xs in range-all (memory_bits b at xs) (0 + b * length xs) (omega arith)
 
 -- A memory of at most `max_bits` bits has its whole window.
-pub HasWindow-whole : (b : ℕ) (xs : List ℕ) → FitsMaxBits b xs → HasWindow b xs (whole_window b xs)
-HasWindow-whole b xs fits = record { fits = fits; within = record { start = omega arith; len = omega arith } }
+pub HasWindow-whole : {b : ℕ} {xs : List ℕ} → FitsMaxBits b xs → HasWindow b xs (whole_window b xs)
+HasWindow-whole fits = record { fits = fits; within = record { start = omega arith; len = omega arith } }
 
 -- what the steps so far replied and left, where a step on a list of n bits is a row
 module _ {E C S : Type 0} (access : Access C E) (row_of : ℕ → S → CommandRow) where
@@ -43,7 +43,7 @@ module _ {E C S : Type 0} (access : Access C E) (row_of : ℕ → S → CommandR
   Ran-next b at words list steps i d window old now new made result has below before did =
       let step = slice_index_or steps i d in
       let list_now = list_after (row_list row_of) list (take i steps) in
-      let holds : list_in b at (access.numbers now) window ≡ list_now = Writes-holds b at (access.numbers old) (access.numbers now) window list_now has before.writes in
+      let holds : list_in b at (access.numbers now) window ≡ list_now = Writes-holds has before.writes in
       let long = sym before.writes.long in
       let reply : result ≡ row_reply row_of list_now step =
       did.reply
@@ -51,8 +51,8 @@ module _ {E C S : Type 0} (access : Access C E) (row_of : ℕ → S → CommandR
       ∙ ap (λ (n : ℕ). (row_of n step).reply list_now) long in
       record {
         replies = rw (before.replies, reply) (sym (replies-next (row_reply row_of) (row_list row_of) list steps i d below));
-        writes = Writes-is b at (access.numbers old) (access.numbers new) window _ _
-            (Writes-then b at (access.numbers old) (access.numbers now) (access.numbers new) window list_now _ has before.writes did.writes)
+        writes = Writes-is
+            (Writes-then has before.writes did.writes)
             (ap (λ (l : List Bool). (row_of window.len step).list l) holds
             ∙ ap (λ (n : ℕ). (row_of n step).list list_now) long
             ∙ sym (after-next (row_list row_of) list steps i d below));
@@ -65,7 +65,7 @@ module _ {E F C D S : Type 0} (access : Access C E) (beside : Access D F) (row_o
       → RunsBy access beside row_of b at words window (take 0 steps) old old right right made
   RunsBy-start b at words window steps old right made has none = record {
     replies = none;
-    writes = Writes-nothing b at (access.numbers old) _ window has refl;
+    writes = Writes-nothing at _ has refl;
     cost = record { borrow = refl; loads = omega arith; stores = omega arith };
     right = record { numbers = refl; borrow = refl; loads = omega arith; stores = refl };
   }

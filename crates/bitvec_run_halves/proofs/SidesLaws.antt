@@ -35,8 +35,8 @@ module _ {X : Type 0} (l r : List X) (mid n : ℕ) (cut : length l ≡ mid) wher
 
 -- a side of a window of the memory is one too
 pub side-has : (b : ℕ) (xs : List ℕ) (window : Window) (mid : ℕ) (side : Side) → HasWindow b xs window → mid ≤ window.len → HasWindow b xs (side_window window mid side)
-side-has b xs window mid Left has order = HasWindow-range b xs window 0 mid has (omega arith) order
-side-has b xs window mid Right has order = HasWindow-range b xs window mid window.len has order (omega arith)
+side-has b xs window mid Left has order = HasWindow-range 0 mid has (omega arith) order
+side-has b xs window mid Right has order = HasWindow-range mid window.len has order (omega arith)
 
 -- what the steps so far replied and left
 module _ {E C : Type 0} (access : Access C E) (b : ℕ) (at : ℕ → ℕ → ℕ) (words : Bool) (right : List Bool) (window : Window) (mid : ℕ) where
@@ -54,27 +54,27 @@ module _ {E C : Type 0} (access : Access C E) (b : ℕ) (at : ℕ → ℕ → �
       let xs = access.numbers old in
       let row = λ (n : ℕ). step_outcome right n step in
       let len : mid - 0 ≡ length l = omega (arith, cut) in
-      let part : list_in b at xs (side_window window mid Left) ≡ l = list-range b at xs window 0 mid has (omega arith) order ∙ ap (λ (ys : List Bool). slice_range ys 0 mid) holds ∙ front-list l r mid window.len cut in
+      let part : list_in b at xs (side_window window mid Left) ≡ l = list-range at 0 mid has (omega arith) order ∙ ap (λ (ys : List Bool). slice_range ys 0 mid) holds ∙ front-list l r mid window.len cut in
       let same = ap (λ (ys : List Bool). (row (mid - 0)).list ys) part ∙ ap (λ (n : ℕ). (row n).list l) len in
-      let writes = Writes-is b at xs (access.numbers new) (side_window window mid Left) _ ((row (length l)).list l) did.writes same in
+      let writes = Writes-is did.writes same in
       let long : length ((row (length l)).list l) ≡ mid = omega (arith, writes.long) in
       record {
         reply = did.reply ∙ ap (λ (ys : List Bool). (row (mid - 0)).reply ys) part ∙ ap (λ (n : ℕ). (row n).reply l) len;
-        writes = Writes-is b at xs (access.numbers new) window _ _ (Writes-range b at xs (access.numbers new) window 0 mid _ has (omega arith) order writes)
+        writes = Writes-is (Writes-range 0 mid has (omega arith) order writes)
             (ap (λ (ys : List Bool). write_at ys 0 ((row (length l)).list l)) holds ∙ front-written l r mid window.len cut _ long);
         cut = long;
       }
   made (l, r) (Right, step) old new result has order cut holds did =
       let xs = access.numbers old in
       let row = λ (n : ℕ). step_outcome right n step in
-      let all : length (l ++ r) ≡ window.len = sym (ap length holds) ∙ length-list b at xs window has in
+      let all : length (l ++ r) ≡ window.len = sym (ap length holds) ∙ length-list at has in
       let len : window.len - mid ≡ length r = omega (arith, cut, all, length-append l r) in
-      let part : list_in b at xs (side_window window mid Right) ≡ r = list-range b at xs window mid window.len has order (omega arith) ∙ ap (λ (ys : List Bool). slice_range ys mid window.len) holds ∙ rest-list l r mid window.len cut all in
+      let part : list_in b at xs (side_window window mid Right) ≡ r = list-range at mid window.len has order (omega arith) ∙ ap (λ (ys : List Bool). slice_range ys mid window.len) holds ∙ rest-list l r mid window.len cut all in
       let same = ap (λ (ys : List Bool). (row (window.len - mid)).list ys) part ∙ ap (λ (n : ℕ). (row n).list r) len in
-      let writes = Writes-is b at xs (access.numbers new) (side_window window mid Right) _ ((row (length r)).list r) did.writes same in
+      let writes = Writes-is did.writes same in
       record {
         reply = did.reply ∙ ap (λ (ys : List Bool). (row (window.len - mid)).reply ys) part ∙ ap (λ (n : ℕ). (row n).reply r) len;
-        writes = Writes-is b at xs (access.numbers new) window _ _ (Writes-range b at xs (access.numbers new) window mid window.len _ has order (omega arith) writes)
+        writes = Writes-is (Writes-range mid window.len has order (omega arith) writes)
             (ap (λ (ys : List Bool). write_at ys mid ((row (length r)).list r)) holds ∙ rest-written l r mid window.len cut _ all writes.long);
         cut = cut;
       }
@@ -89,10 +89,10 @@ module _ {E C : Type 0} (access : Access C E) (b : ℕ) (at : ℕ → ℕ → �
   pub RanSides-none : (old : C) → HasWindow b (access.numbers old) window → mid ≤ window.len → RanSides [] old old []
   RanSides-none old has order =
       let list = list_in b at (access.numbers old) window in
-      let long = length-list b at (access.numbers old) window has in
+      let long = length-list at has in
       record {
         replied = refl;
-        writes = Writes-is b at (access.numbers old) (access.numbers old) window _ _ (Writes-nothing b at (access.numbers old) (access.numbers old) window has refl) (sym (take-append-drop mid list));
+        writes = Writes-is (Writes-nothing at (access.numbers old) has refl) (sym (take-append-drop mid list));
         cut = omega (arith, length-take mid list);
       }
 
@@ -105,11 +105,11 @@ module _ {E C : Type 0} (access : Access C E) (b : ℕ) (at : ℕ → ℕ → �
       let start = halves_of mid (list_in b at (access.numbers old) window) in
       let lists = list_after (side_lists right) start (take i steps) in
       let step = slice_index_or steps i d in
-      let holds = Writes-holds b at (access.numbers old) (access.numbers now) window (joined lists) has before.writes in
-      let one = made lists step now new result (HasWindow-kept b (access.numbers old) (access.numbers now) window has before.writes.elements) order before.cut holds did in
+      let holds = Writes-holds has before.writes in
+      let one = made lists step now new result (HasWindow-kept (access.numbers now) has before.writes.elements) order before.cut holds did in
       let next = sym (after-next (side_lists right) start steps i d below) in
       record {
         replied = rw (before.replied, one.reply) (sym (replies-next (side_reply right) (side_lists right) start steps i d below));
-        writes = Writes-is b at (access.numbers old) (access.numbers new) window _ _ (Writes-then b at (access.numbers old) (access.numbers now) (access.numbers new) window _ _ has before.writes one.writes) (ap joined next);
+        writes = Writes-is (Writes-then has before.writes one.writes) (ap joined next);
         cut = ap (λ (ls : List Bool × List Bool). length ls.0) (sym next) ∙ one.cut;
       }

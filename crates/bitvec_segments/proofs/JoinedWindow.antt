@@ -48,46 +48,46 @@ bits-number high b at v ends =
     ∙ sym (get-element_bits b at v i d (omega arith)))
 
 -- of an element's bits
-pub number-element : (high : Bool) (b : ℕ) (at : ℕ → ℕ → ℕ) (v x : ℕ) → RunsFrom high b at → v ≡ x → v < 2 ^ b → v ≡ segment_number high (element_bits b at x)
-number-element high b at v x ends is below = segment-number-is high b v _ below (bits-number high b at v ends ∙ ap (element_bits b at) is)
+pub number-element : (high : Bool) (b : ℕ) (at : ℕ → ℕ → ℕ) {v x : ℕ} → RunsFrom high b at → v ≡ x → v < 2 ^ b → v ≡ segment_number high (element_bits b at x)
+number-element high b at {v} ends is below = segment-number-is high b v _ below (bits-number high b at v ends ∙ ap (element_bits b at) is)
 
 -- of one element
 pub number-one : (high : Bool) (b : ℕ) (at : ℕ → ℕ → ℕ) (xs : List ℕ) (first v : ℕ) → 0 < b → HasWindow b xs (elements_window b first 1) → v ≡ segment_number high (element_bits b at (slice_index xs first)) → v ≡ segment_number high (list_in b at xs (elements_window b first 1))
 number-one high b at xs first v some has is =
     let none = list-empty b at xs (elements_window b first 0) (omega arith) in
     let here : first + 0 ≡ first = omega arith in
-    let whole = rw (none, here) at (list-element b at xs first 1 0 some has (omega arith)) in
+    let whole = rw (none, here) at (list-element at first 1 0 some has (omega arith)) in
     is ∙ ap (segment_number high) whole
 
 -- with one more behind them
-pub number-next : (high : Bool) (b : ℕ) (at : ℕ → ℕ → ℕ) (xs : List ℕ) (first count v w : ℕ) → 0 < b → HasWindow b xs (elements_window b first (count + 1))
+pub number-next : (high : Bool) {b : ℕ} (at : ℕ → ℕ → ℕ) {xs : List ℕ} (first count : ℕ) {v w : ℕ} → 0 < b → HasWindow b xs (elements_window b first (count + 1))
     → v ≡ segment_number high (list_in b at xs (elements_window b first count)) → w ≡ segment_number high (element_bits b at (slice_index xs (first + count)))
     → (if high then v * 2 ^ b + w else w * 2 ^ (count * b) + v) ≡ segment_number high (list_in b at xs (elements_window b first (count + 1)))
-number-next true b at xs first count v w some has before next =
-    let whole = list-element b at xs first (count + 1) count some has (omega arith) in
+number-next true {b} at {xs} first count some has before next =
+    let whole = list-element at first (count + 1) count some has (omega arith) in
     let long = length-element_bits b at (slice_index xs (first + count)) in
     rw (before, next) (sym (sym (ap (segment_number true) whole) ∙ append-highest (list_in b at xs (elements_window b first count)) (element_bits b at (slice_index xs (first + count))) ∙ rw long refl))
-number-next false b at xs first count v w some has before next =
-    let whole = list-element b at xs first (count + 1) count some has (omega arith) in
+number-next false {b} at {xs} first count some has before next =
+    let whole = list-element at first (count + 1) count some has (omega arith) in
     let start = has.within.start in
-    let long = length-list b at xs (elements_window b first count) (record { fits = has.fits; within = record { start = start; len = omega arith } }) in
+    let long = length-list {b = b} at {xs = xs} {window = elements_window b first count} (record { fits = has.fits; within = record { start = start; len = omega arith } }) in
     rw (before, next) (sym (sym (ap (segment_number false) whole) ∙ append-lowest (list_in b at xs (elements_window b first count)) (element_bits b at (slice_index xs (first + count))) ∙ rw long refl))
 
 -- it has as many bits as they
 pub number-below : (high : Bool) (b : ℕ) (at : ℕ → ℕ → ℕ) (xs : List ℕ) (window : Window) (v : ℕ) → HasWindow b xs window → v ≡ segment_number high (list_in b at xs window) → v < 2 ^ window.len
 number-below high b at xs window v has is =
-    let below = rw (length-list b at xs window has) at (segment_number-below high (list_in b at xs window)) in
+    let below = rw (length-list at has) at (segment_number-below high (list_in b at xs window)) in
     rw is below
 
 -- of the window's bits among those of the elements
-pub number-cut : (high : Bool) (b : ℕ) (at : ℕ → ℕ → ℕ) (xs : List ℕ) (window : Window) (count v : ℕ) → HasWindow b xs (elements_window b (window.start / b) count) → window.start % b + window.len ≤ count * b
+pub number-cut : (high : Bool) {b : ℕ} (at : ℕ → ℕ → ℕ) {xs : List ℕ} (window : Window) (count : ℕ) {v : ℕ} → HasWindow b xs (elements_window b (window.start / b) count) → window.start % b + window.len ≤ count * b
     → v ≡ segment_number high (list_in b at xs (elements_window b (window.start / b) count))
     → v / 2 ^ lowest_bit high (count * b) (window.start % b) window.len % 2 ^ window.len ≡ segment_number high (list_in b at xs window)
-number-cut high b at xs window count v has inside is =
+number-cut high {b} at {xs} window count has inside is =
     let whole : Window = elements_window b (window.start / b) count in
     let from : ℕ = window.start % b in
-    let long = length-list b at xs whole has in
-    let part = list-range b at xs whole from (from + window.len) has (omega arith) inside in
+    let long = length-list at has in
+    let part = list-range at from (from + window.len) has (omega arith) inside in
     let place : window.start / b * b + from ≡ window.start = div-add-mod' window.start b in
     let len : from + window.len - from ≡ window.len = omega arith in
     let cut = rw long at (number-range high (list_in b at xs whole) from window.len (omega arith)) in

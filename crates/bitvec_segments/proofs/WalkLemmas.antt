@@ -30,9 +30,9 @@ unmoved true v = omega arith
 unmoved false v = omega arith
 
 -- a store in no bits
-pub stored-nothing : (big high : Bool) (b : ℕ) (at : ℕ → ℕ → ℕ) (xs : List ℕ) (window : Window) (v : ℕ) → HasWindow b xs window → window.len ≡ 0 → StoresIn big high b at xs xs window v
-stored-nothing big high b at xs window v has none =
-    Writes-is b at xs xs window _ _ (Writes-empty b at xs xs window has none refl)
+pub stored-nothing : (big high : Bool) {b : ℕ} (at : ℕ → ℕ → ℕ) {xs : List ℕ} {window : Window} (v : ℕ) → HasWindow b xs window → window.len ≡ 0 → StoresIn big high b at xs xs window v
+stored-nothing big high {b} at {xs} {window} v has none =
+    Writes-is (Writes-empty at xs has none refl)
     (sym (ap (stored big high b window.start v) (list-empty b at xs window none) ∙ stored-none big high b window.start v))
 
 -- the next part of t bits
@@ -43,22 +43,22 @@ module _ (big high : Bool) (b : ℕ) (at : ℕ → ℕ → ℕ) (xs : List ℕ) 
       let place = first-place b rest in
       let len = first-len b rest some more in
       sym (list-same b at xs (window_range rest 0 t) (part_window b (first_part_of b rest)) (omega arith) (omega arith)
-      ∙ list-range b at xs rest 0 t has (omega arith) (omega arith)
+      ∙ list-range at 0 t has (omega arith) (omega arith)
       ∙ range-from_start (list_in b at xs rest) t t refl)
 
   dropped-part : drop t (list_in b at xs rest) ≡ list_in b at xs (window_after t rest)
-  dropped-part = let len = first-len b rest some more in sym (list-after b at xs rest t has (omega arith))
+  dropped-part = let len = first-len b rest some more in sym (list-after at t has (omega arith))
 
   pub number-part : loaded big high b rest.start (list_in b at xs rest)
       ≡ segment_number high (list_in b at xs (part_window b (first_part_of b rest))) * 2 ^ lower_bits big 0 (rest.len - t) + loaded big high b (rest.start + t) (list_in b at xs (window_after t rest)) * 2 ^ lower_bits big t 0
   number-part =
-      let long = length-list b at xs rest has in
+      let long = length-list at has in
       loaded-first big high b rest.start (list_in b at xs rest) t some (omega arith) (omega arith) ∙ rw (taken-part, dropped-part, long) refl
 
   bits-part : (v : ℕ) → stored big high b rest.start v (list_in b at xs rest)
       ≡ segment_bits high t (v / 2 ^ lower_bits big 0 (rest.len - t)) ++ stored big high b (rest.start + t) (v / 2 ^ lower_bits big t 0) (list_in b at xs (window_after t rest))
   bits-part v =
-      let long = length-list b at xs rest has in
+      let long = length-list at has in
       stored-first big high b rest.start v (list_in b at xs rest) t some (omega arith) (omega arith) ∙ rw (dropped-part, long) refl
 
   -- a store of it, and one of what is left
@@ -67,21 +67,21 @@ module _ (big high : Bool) (b : ℕ) (at : ℕ → ℕ → ℕ) (xs : List ℕ) 
   stored-joined mid new v first later =
       let place = first-place b rest in
       let len = first-len b rest some more in
-      let part = HasWindow-part b xs rest (part_window b (first_part_of b rest)) has (omega arith) (omega arith) in
-      let left = HasWindow-part b xs rest (window_after t rest) has (omega arith) (omega arith) in
-      let kept = list-behind b at xs mid _ (window_after t rest) _ part left (omega arith) first in
+      let part = HasWindow-part (part_window b (first_part_of b rest)) has (omega arith) (omega arith) in
+      let left = HasWindow-part (window_after t rest) has (omega arith) (omega arith) in
+      let kept = list-behind part left (omega arith) first in
       let later_bits : List Bool = stored big high b (rest.start + t) (v / 2 ^ lower_bits big t 0) (list_in b at xs (window_after t rest)) in
-      Writes-is b at xs new rest _ _
-      (Writes-head b at xs mid new rest t _ _ some more step has first (Writes-is b at mid new _ _ _ later (ap (stored big high b (rest.start + t) (v / 2 ^ lower_bits big t 0)) kept)))
+      Writes-is
+      (Writes-head some more step has first (Writes-is later (ap (stored big high b (rest.start + t) (v / 2 ^ lower_bits big t 0)) kept)))
       (ap (λ (k : ℕ). segment_bits high k (v / 2 ^ lower_bits big 0 (rest.len - t)) ++ later_bits) (sym step) ∙ sym (bits-part v))
 
   -- nothing is left
   pub stored-one : (new : List ℕ) (v : ℕ) → rest.len ≤ t → Writes b at xs new (part_window b (first_part_of b rest)) (segment_bits high ((first_part_of b rest).to - (first_part_of b rest).from) v) → StoresIn big high b at xs new rest v
   stored-one new v all written =
       let none : rest.len - t ≡ 0 = omega arith in
-      let left = HasWindow-part b xs rest (window_after t rest) has (omega arith) (let len = first-len b rest some more in omega arith) in
+      let left = HasWindow-part (window_after t rest) has (omega arith) (let len = first-len b rest some more in omega arith) in
       stored-joined new new v (rw (none, unmoved big v) written)
-      (stored-nothing big high b at new (window_after t rest) _ (HasWindow-kept b xs new (window_after t rest) left written.elements) none)
+      (stored-nothing big high at _ (HasWindow-kept new left written.elements) none)
 
 -- ---- loads
 
@@ -94,10 +94,10 @@ part-sum : (big : Bool) (number n left d t e : ℕ) → number + (n * 2 ^ lower_
 part-sum true number n left d t e = omega arith
 part-sum false number n left d t e = let power = pow-add 2 d t in rw power (omega arith)
 
-pub Loaded-next : (big high : Bool) (b : ℕ) (at : ℕ → ℕ → ℕ) (xs : List ℕ) (window rest : Window) (t number n : ℕ) → 0 < b → 0 < rest.len → t ≡ (first_part_of b rest).to - (first_part_of b rest).from → HasWindow b xs rest → rest.len ≤ window.len
+pub Loaded-next : (big high : Bool) {b : ℕ} (at : ℕ → ℕ → ℕ) {xs : List ℕ} (window : Window) {rest : Window} {t : ℕ} (number : ℕ) {n : ℕ} → 0 < b → 0 < rest.len → t ≡ (first_part_of b rest).to - (first_part_of b rest).from → HasWindow b xs rest → rest.len ≤ window.len
     → n ≡ segment_number high (list_in b at xs (part_window b (first_part_of b rest)))
     → Loaded big high b at xs window rest number → Loaded big high b at xs window (window_after t rest) (number + n * 2 ^ lower_bits big (window.len - rest.len) (rest.len - t))
-Loaded-next big high b at xs window rest t number n some more step has fits is before =
+Loaded-next big high {b} at {xs} window {rest} {t} number {n} some more step has fits is before =
     let part = number-part big high b at xs rest t some more step has in
     let len = first-len b rest some more in
     let d : ℕ = window.len - rest.len in
@@ -124,14 +124,14 @@ total_fits : (v n w : ℕ) → w < 2 ^ n → n ≤ 128 → v ≤ w → v < 2 ^ 1
 total_fits v n w below size least = let most : 2 ^ n ≤ 2 ^ 128 = pow_mono size in omega arith
 
 pub loaded-fits : (big high : Bool) (b : ℕ) (at : ℕ → ℕ → ℕ) (xs : List ℕ) (window : Window) → HasWindow b xs window → window.len ≤ 128 → loaded big high b window.start (list_in b at xs window) < 2 ^ 128
-loaded-fits big high b at xs window has size = total_fits _ window.len _ (rw (length-list b at xs window has) at (loaded-below big high b window.start (list_in b at xs window))) size (omega arith)
+loaded-fits big high b at xs window has size = total_fits _ window.len _ (rw (length-list at has) at (loaded-below big high b window.start (list_in b at xs window))) size (omega arith)
 
-pub Loaded-fits : (big high : Bool) (b : ℕ) (at : ℕ → ℕ → ℕ) (xs : List ℕ) (window rest : Window) (number : ℕ) → HasWindow b xs window → window.len ≤ 128 → Loaded big high b at xs window rest number → number < 2 ^ 128
-Loaded-fits big high b at xs window rest number has size is = let below = loaded-fits big high b at xs window has size in omega arith
+pub Loaded-fits : (big high : Bool) {b : ℕ} (at : ℕ → ℕ → ℕ) {xs : List ℕ} {window : Window} (rest : Window) (number : ℕ) → HasWindow b xs window → window.len ≤ 128 → Loaded big high b at xs window rest number → number < 2 ^ 128
+Loaded-fits big high {b} at {xs} {window} rest number has size is = let below = loaded-fits big high b at xs window has size in omega arith
 
 -- and no bit of what is added is lost
-pub parts_kept : (v w : ℕ) → v + w < 2 ^ 128 → (v % 2 ^ 128 ≡ v) × (w % 2 ^ 128 ≡ w)
-parts_kept v w fits = (mod-eq_of_lt (omega arith), mod-eq_of_lt (omega arith))
+pub parts_kept : {v w : ℕ} → v + w < 2 ^ 128 → (v % 2 ^ 128 ≡ v) × (w % 2 ^ 128 ≡ w)
+parts_kept fits = (mod-eq_of_lt (omega arith), mod-eq_of_lt (omega arith))
 
 -- nothing is left at the end
 pub Loaded-all : (big high : Bool) (b : ℕ) (at : ℕ → ℕ → ℕ) (xs : List ℕ) (window rest : Window) (number : ℕ) → rest.len ≡ 0 → Loaded big high b at xs window rest number → number ≡ loaded big high b window.start (list_in b at xs window)
@@ -183,11 +183,11 @@ pub edge-len : (b e : ℕ) (window : Window) → 0 < b → window.start ≡ e * 
 edge-len b e window some edge = let phase = (edge-place b e window some edge).1 in omega arith
 
 -- it is one of an element, and isn't empty
-pub first-part : (b w : ℕ) (xs : List ℕ) (window : Window) (part : Part) → IsWidth b → 0 < window.len → HasWindow b xs window → part ≡ first_part_of w window → w ≡ b → HasPart b xs part × (part.from < part.to)
-first-part b w xs window part width more has is width_is =
+pub first-part : {b w : ℕ} {xs : List ℕ} {window : Window} {part : Part} → IsWidth b → 0 < window.len → HasWindow b xs window → part ≡ first_part_of w window → w ≡ b → HasPart b xs part × (part.from < part.to)
+first-part {b} {w} {xs} {window} {part} width more has is width_is =
     let some = width_some b width in
     let same : part ≡ first_part_of b window = is ∙ ap (λ (n : ℕ). first_part_of n window) width_is in
-    rw same (HasPart-first b xs window window some more has (Walked-start b window), (first-len b window some more).0)
+    rw same (HasPart-first some more has (Walked-start b window), (first-len b window some more).0)
 
 -- ---- the first part of a window from a place on
 
@@ -219,9 +219,9 @@ turn b w rest t left part width count more is width_is step =
     let long = step ∙ ap (λ (p : Part). p.to - p.from) same in
     record { some = some; more = filled; is = same; step = long; first = omega arith; most = omega arith; touched = touched-parts b rest.start t rest.len some filled (omega arith) }
 
-pub Begins-next : (b : ℕ) (rest : Window) (t element left : ℕ) → 0 < b → t ≡ (first_part_of b rest).to - (first_part_of b rest).from → element ≡ rest.start / b → left ≡ touched_count b (rest.start + t) (rest.len - t)
+pub Begins-next : (b : ℕ) (rest : Window) {t element left : ℕ} → 0 < b → t ≡ (first_part_of b rest).to - (first_part_of b rest).from → element ≡ rest.start / b → left ≡ touched_count b (rest.start + t) (rest.len - t)
     → Begins b (window_after t rest) (element + 1) 0 left
-Begins-next b rest t element left some step is count = λ more.
+Begins-next b rest {t} {element} {left} some step is count = λ more.
     let later = some-left b (rest.start + t) (rest.len - t) left count more in
     let place = div-add-mod' rest.start b in
     let head = mod_below rest.start b some in

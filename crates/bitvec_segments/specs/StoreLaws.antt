@@ -117,12 +117,12 @@ rest_stored false high b s n r k m list below long =
 -- ---- what a store leaves is the number, as far as it fits
 
 -- The first `k` bits of two joined lists, where the first list has `k` bits, are the first list.
-pub front-taken : (first rest : List Bool) (k : ℕ) → length first ≡ k → take k (first ++ rest) ≡ first
-front-taken first rest k long = rw (← long) (take-append_seam first rest)
+pub front-taken : {first : List Bool} (rest : List Bool) {k : ℕ} → length first ≡ k → take k (first ++ rest) ≡ first
+front-taken {first} rest long = rw (← long) (take-append_seam first rest)
 
 -- Two joined lists without their first `k` bits, where the first list has `k` bits, are the second list.
-pub front-dropped : (first rest : List Bool) (k : ℕ) → length first ≡ k → drop k (first ++ rest) ≡ rest
-front-dropped first rest k long = rw (← long) (drop-append_seam first rest)
+pub front-dropped : (first : List Bool) {rest : List Bool} {k : ℕ} → length first ≡ k → drop k (first ++ rest) ≡ rest
+front-dropped first {rest} long = rw (← long) (drop-append_seam first rest)
 
 -- if the rest does, so does the whole
 module _ (big high : Bool) (b s v : ℕ) (list : List Bool) (k : ℕ) (some : 0 < b) (more : 0 < length list) (is : k ≡ first_len b s (length list)) where
@@ -133,8 +133,8 @@ module _ (big high : Bool) (b s v : ℕ) (list : List Bool) (k : ℕ) (some : 0 
       let left : length (drop k list) ≡ length list - k = length-drop k list in
       let w : ℕ = v / 2 ^ lower_bits big 0 (length list - k) in
       let cut = stored-first big high b s v list k some more is in
-      let taken = ap (take k) cut ∙ front-taken _ _ k (length-segment_bits high k w) in
-      let dropped = ap (drop k) cut ∙ front-dropped _ _ k (length-segment_bits high k w) in
+      let taken = ap (take k) cut ∙ front-taken _ (length-segment_bits high k w) in
+      let dropped = ap (drop k) cut ∙ front-dropped _ (length-segment_bits high k w) in
       let all : k + (length list - k) ≡ length list = omega arith in
       loaded-first big high b s new k some (rw long more) (rw long is)
       ∙ rw (taken, dropped, rest, segment-number high k w, long, left) (split_mod big v k (length list - k) ∙ ap (λ (n : ℕ). v % 2 ^ n) all)

@@ -20,4 +20,4 @@ module _ {T O : Type 0} {t : Store T} {o : Order O} (v : BitSliceMut T O t o) wh
   lent_bits-keep from to start end ws some order bound begins ends =
       let inside = v.inside in
       let is = touches t.BITS (length (seen_mut v).elements) (v.head + from) (v.head + to) some (omega arith) (omega arith) in
-      rw (sym begins, sym ends) (refilled-keeps (seen_mut v).elements ws _ _ is.order is.bound)
+      rw (sym begins, sym ends) (refilled-keeps (seen_mut v).elements ws is.order is.bound)

@@ -48,4 +48,4 @@ module _ {T O : Type 0} {t : Store T} {o : Order O} where
       → WritesBits v (with_elements v (with_range v.elements.now (if has then start else 0) (if has then end else 0) ws)) (seen_mut v).bits
   lent-none v ws has start end is_none =
       rw is_none (writes_bits v v.elements.now (seen_mut v).bits
-      (Writes-nothing t.BITS o.at (map t.value v.elements.now) (map t.value v.elements.now) (seen_mut v).window (has_window t.BITS o.at t.value v.elements.now v.head v.len v.inside v.bounded) refl))
+      (Writes-nothing o.at (map t.value v.elements.now) (has_window t.BITS o.at t.value v.elements.now v.head v.len v.inside v.bounded) refl))

@@ -14,8 +14,8 @@ use Rattle.bitvec_store.specs.Width.{IsWidth}
 use Rattle.bitvec_store.specs.WidthLaws.{at_each_width}
 
 -- some bits of the few elements that are held aside
-pub held-inside : (b : ℕ) (xs : List ℕ) (n : ℕ) (window : Window) → IsWidth b → length xs ≡ n → n ≤ 512 → window.start + window.len ≤ b * n → HasWindow b xs window
-held-inside b xs n window width long few fits =
+pub held-inside : {b : ℕ} {xs : List ℕ} {n : ℕ} {window : Window} → IsWidth b → length xs ≡ n → n ≤ 512 → window.start + window.len ≤ b * n → HasWindow b xs window
+held-inside {b} {xs} {n} width long few fits =
     let most : b ≤ 128 = at_each_width (λ m. m ≤ 128) (omega arith) (omega arith) (omega arith) (omega arith) (omega arith) b width in
     let room = mul-le-mul_left b few in
     let all : b * length xs ≡ b * n = ap (λ (m : ℕ). b * m) long in

@@ -98,18 +98,18 @@ module _ (b : ℕ) (at : ℕ → ℕ → ℕ) (some : 0 < b) where
       let far-is : behind front rest far ≡ window_range window s (s + n) = window-same _ _ far-start (omega arith) in
       let moved : behind left rest far ≡ window_range window s (s + n) = window-same _ _ (ap (λ (m : ℕ). b * m + far.start) first.elements ∙ far-start) (omega arith) in
       let near-list : list_in b at front near ≡ slice_range list f (f + n) =
-      sym (list-in_front front rest near near-has) ∙ ap (list_in b at old) near-is ∙ list-range b at old window f (f + n) has (omega arith) source in
-      let far-list : list_in b at rest far ≡ slice_range list s (s + n) = sym (list-in_rest front rest far) ∙ ap (list_in b at old) far-is ∙ list-range b at old window s (s + n) has (omega arith) dest in
+      sym (list-in_front front rest near near-has) ∙ ap (list_in b at old) near-is ∙ list-range at f (f + n) has (omega arith) source in
+      let far-list : list_in b at rest far ≡ slice_range list s (s + n) = sym (list-in_rest front rest far) ∙ ap (list_in b at old) far-is ∙ list-range at s (s + n) has (omega arith) dest in
       let one = subst (λ (w : Window). Writes b at old mid w (list_in b at rest far)) near-is (Writes-in_front front rest left near _ near-has first) in
       let two = subst (λ (w : Window). Writes b at mid (left ++ right) w (list_in b at front near)) moved (Writes-in_rest left rest right far _ far-has second) in
       let count : f + n - f ≡ n = omega arith in
-      Writes-next (λ (l : List Bool). write_at l s (list_in b at front near)) has (Writes-range b at old mid window f (f + n) _ has (omega arith) source one)
-      (Writes-range b at mid (left ++ right) window s (s + n) _ (HasWindow-kept b old mid window has one.elements) (omega arith) dest two)
+      Writes-next (λ (l : List Bool). write_at l s (list_in b at front near)) has (Writes-range f (f + n) has (omega arith) source one)
+      (Writes-range s (s + n) (HasWindow-kept mid has one.elements) (omega arith) dest two)
       (rw (near-list, far-list, count) refl)
 
 -- the place at which the elements are cut
-pub cut-place : {A : Type 0} (b bits : ℕ) (value : A → ℕ) (front : List A) (window : Window) (s : ℕ) → bits ≡ b → length front ≡ (window.start + s) / bits → b * length (map value front) + (window.start + s) % bits ≡ window.start + s
-cut-place b bits value front window s same count =
+pub cut-place : {A : Type 0} {b bits : ℕ} (value : A → ℕ) (front : List A) (window : Window) (s : ℕ) → bits ≡ b → length front ≡ (window.start + s) / bits → b * length (map value front) + (window.start + s) % bits ≡ window.start + s
+cut-place {b} {bits} value front window s same count =
     let place = window.start + s in
     ap (λ (n : ℕ). b * n + place % bits) (length-map front value ∙ count) ∙ ap (λ (n : ℕ). n * (place / bits) + place % bits) (sym same) ∙ div-add-mod place bits
 
@@ -120,7 +120,7 @@ pub cut-inside : {A : Type 0} (b bits : ℕ) (value : A → ℕ) (cells front re
 cut-inside b bits value cells front rest window near f s n same has joined count range order bound =
     let place = window.start + s in
     let remainder : place % bits ≡ place % b = ap (λ (m : ℕ). place % m) same in
-    let cut = cut-place b bits value front window s same count in
+    let cut = cut-place value front window s same count in
     let joint : b * length (map value cells) ≡ b * length (map value front) + b * length (map value rest) =
     ap (λ (xs : List ℕ). b * length xs) (ap (map value) joined ∙ map-append value front rest) ∙ ap (λ (m : ℕ). b * m) (length-append (map value front) (map value rest)) ∙ mul-add b (length (map value front)) (length (map value rest)) in
     let fits = has.fits in

@@ -26,20 +26,20 @@ unfolding shifted_end padded write_at
 shifted-end_word b bits n k long order bound = same_lists _ _ (search (rules, places)) (λ i e inside. grind (arith, places))
 
 -- the first n of b bits in the opposite order are the last ones of all in that
-pub reversed-word : (b : ℕ) (bits : List Bool) (n m : ℕ) → length bits ≡ b → n ≤ b → m ≡ b - n
+pub reversed-word : {b : ℕ} (bits : List Bool) (n : ℕ) {m : ℕ} → length bits ≡ b → n ≤ b → m ≡ b - n
     → write_at (replicate b false) 0 (slice_range (reverse bits) m (m + n)) ≡ padded b (reverse (take n bits))
 unfolding padded write_at
-reversed-word b bits n m long bound behind = same_lists _ _ (search (rules, places)) (λ i e inside. grind (arith, places))
+reversed-word bits n long bound behind = same_lists _ _ (search (rules, places)) (λ i e inside. grind (arith, places))
 
 -- a window of at most 64 bits gets an edit of its list, as the first bits of a word
-pub few-edited : (b : ℕ) (at : ℕ → ℕ → ℕ) (old new : List ℕ) (window : Window) (edit : List Bool → List Bool) (bits reordered : List Bool) → HasWindow b old window
+pub few-edited : {b : ℕ} {at : ℕ → ℕ → ℕ} {old new : List ℕ} {window : Window} (edit : List Bool → List Bool) {bits reordered : List Bool} → HasWindow b old window
     → bits ≡ padded 64 (list_in b at old window) → reordered ≡ padded 64 (edit (take window.len bits)) → length (edit (list_in b at old window)) ≡ window.len
     → Writes b at old new window (take window.len reordered) → Edits b at old new window edit
-few-edited b at old new window edit bits reordered has word edited long writes =
+few-edited {b} {at} {old} {new} {window} edit {bits} {reordered} has word edited long writes =
     let list = list_in b at old window in
-    let whole = length-list b at old window has in
-    let same = take-word 64 window.len bits list word (sym whole) in
-    Writes-is b at old new window _ (edit list) writes (take-word 64 window.len reordered (edit list) (edited ∙ ap (λ (l : List Bool). padded 64 (edit l)) same) (sym long))
+    let whole = length-list at has in
+    let same = take-word 64 list word (sym whole) in
+    Writes-is writes (take-word 64 (edit list) (edited ∙ ap (λ (l : List Bool). padded 64 (edit l)) same) (sym long))
 
 -- all but the last 64 bits are copied from k places on, and the last 64 are shifted for themselves
 pub copied-shifts_start : (k n : ℕ) (list : List Bool) → length list ≡ n → k < 64 → 64 < n
@@ -87,11 +87,11 @@ copied-shifts_end k n list long few more =
     ap (λ (l : List Bool). write_at now 0 (shifted_end k l)) (take-write_at list 64 (slice_range list (64 - k) (n - k)) (omega arith)) ∙ shifted-before k n list long few more
 
 -- an edit of a window, and then one of a range of it
-pub Edits-range : (b : ℕ) (at : ℕ → ℕ → ℕ) (old mid new : List ℕ) (window : Window) (first second edit : List Bool → List Bool) (from to : ℕ) → HasWindow b old window → from ≤ to → to ≤ window.len
+pub Edits-range : {b : ℕ} (at : ℕ → ℕ → ℕ) {old : List ℕ} (mid new : List ℕ) {window : Window} (first second edit : List Bool → List Bool) (from to : ℕ) → HasWindow b old window → from ≤ to → to ≤ window.len
     → Edits b at old mid window first → Edits b at mid new (window_range window from to) second
     → ((list : List Bool) → length list ≡ window.len → let now = first list in write_at now from (second (slice_range now from to)) ≡ edit list) → Edits b at old new window edit
-Edits-range b at old mid new window first second edit from to has order bound edited ranged all =
-    let now = HasWindow-kept b old mid window has edited.elements in
-    let part = rw (list-range b at mid window from to now order bound) at ranged in
+Edits-range {b} at {old} mid new {window} first second edit from to has order bound edited ranged all =
+    let now = HasWindow-kept mid has edited.elements in
+    let part = rw (list-range at from to now order bound) at ranged in
     Writes-next (λ l. write_at l from (second (slice_range l from to))) has edited
-    (Writes-range b at mid new window from to _ now order bound part) (all _ (length-list b at old window has))
+    (Writes-range from to now order bound part) (all _ (length-list at has))

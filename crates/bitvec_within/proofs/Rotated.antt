@@ -73,17 +73,17 @@ module _ {X : Type 0} (list : List X) where
   back-held k n all fits = same_lists _ _ (search (rules, places)) (λ i e inside. grind (arith, places))
 
 -- a part of a window is held aside, and written to a place of it after another write
-pub Writes-aside : (b : ℕ) (at : ℕ → ℕ → ℕ) (old mid new held kept : List ℕ) (window aside : Window) (from to place end : ℕ) (first list : List Bool) → HasWindow b old window → HasWindow b held aside
+pub Writes-aside : {b : ℕ} {at : ℕ → ℕ → ℕ} {old mid new held kept : List ℕ} {window aside : Window} (from to place end : ℕ) {first list : List Bool} → HasWindow b old window → HasWindow b held aside
     → from ≤ to → to ≤ window.len → place ≤ end → end ≤ window.len
     → Writes b at held kept aside (list_in b at old (window_range window from to))
     → Writes b at old mid window first
     → Writes b at mid new (window_range window place end) (list_in b at kept aside)
     → write_at first place (slice_range (list_in b at old window) from to) ≡ list
     → Writes b at old new window list
-Writes-aside b at old mid new held kept window aside from to place end first list has room order source ahead dest saved moved put same =
-    let holds = Writes-holds b at held kept aside _ room saved ∙ list-range b at old window from to has order source in
+Writes-aside {b} {at} {old} {mid} {new} {held} {kept} {window} {aside} from to place end has room order source ahead dest saved moved put same =
+    let holds = Writes-holds room saved ∙ list-range at from to has order source in
     Writes-next (λ (l : List Bool). write_at l place (list_in b at kept aside)) has moved
-    (Writes-range b at mid new window place end _ (HasWindow-kept b old mid window has moved.elements) ahead dest put)
+    (Writes-range place end (HasWindow-kept mid has moved.elements) ahead dest put)
     (rw holds same)
 
 -- what is behind the first d bits of a window is rotated, after another write
@@ -94,9 +94,9 @@ pub Writes-behind : (b : ℕ) (at : ℕ → ℕ → ℕ) (old mid new : List ℕ
     → Writes b at old new window list
 unfolding rotated_behind
 Writes-behind b at old mid new window d k list has inside before rotated same =
-    let kept = HasWindow-kept b old mid window has before.elements in
-    let part = rw (list-after b at mid window d kept inside) at rotated in
-    Writes-is b at old new window _ list (Writes-then b at old mid new window _ _ has before (Writes-range b at mid new window d window.len _ kept inside (omega arith) part)) same
+    let kept = HasWindow-kept mid has before.elements in
+    let part = rw (list-after at d kept inside) at rotated in
+    Writes-is (Writes-then has before (Writes-range d window.len kept inside (omega arith) part)) same
 
 -- a word that has the first n bits of another from the k-th on, and one that has those before it behind as many, make one with these bits rotated
 pub rotated-word : (at : ℕ → ℕ → ℕ) (word first last n k : ℕ) → k ≤ n → n ≤ 64

@@ -36,17 +36,17 @@ module _ {X : Type 0} where
       grind (arith, swaps))
 
 -- what is held aside, copied to the other place
-pub stretch-swapped : (b : ℕ) (at : ℕ → ℕ → ℕ) (old mid new held kept : List ℕ) (window aside : Window) (f s c : ℕ) → HasWindow b old window → HasWindow b held aside
+pub stretch-swapped : {b : ℕ} {at : ℕ → ℕ → ℕ} {old mid new held kept : List ℕ} {window aside : Window} (f s c : ℕ) → HasWindow b old window → HasWindow b held aside
     → f + c ≤ window.len → s + c ≤ window.len
     → Writes b at held kept aside (list_in b at old (window_range window f (f + c)))
     → Writes b at old mid window (copied_within s (s + c) f (list_in b at old window))
     → Writes b at mid new (window_range window s (s + c)) (list_in b at kept aside)
     → Writes b at old new window (swapped_within f (f + c) s (list_in b at old window))
 unfolding copied_within swapped_within
-stretch-swapped b at old mid new held kept window aside f s c has room source dest first second third =
+stretch-swapped {b} {at} {old} {mid} {new} {held} {kept} {window} {aside} f s c has room source dest first second third =
     let list = list_in b at old window in
-    let saved = Writes-holds b at held kept aside _ room first ∙ list-range b at old window f (f + c) has (omega arith) source in
+    let saved = Writes-holds room first ∙ list-range at f (f + c) has (omega arith) source in
     let count : f + c - f ≡ c = omega arith in
     Writes-next (λ (l : List Bool). write_at l s (list_in b at kept aside)) has second
-    (Writes-range b at mid new window s (s + c) _ (HasWindow-kept b old mid window has second.elements) (omega arith) dest third)
+    (Writes-range s (s + c) (HasWindow-kept mid has second.elements) (omega arith) dest third)
     (rw (saved, count) refl)

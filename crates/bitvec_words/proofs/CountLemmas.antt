@@ -20,18 +20,18 @@ use Rattle.bitvec_words.proofs.SplitLemmas.{count-parts, split-count}
 use Rattle.bitvec_words.proofs.WordScanLemmas.{Block, Parted, HasWindow-elements, block-at, list-elements_join, parted-blocks}
 
 -- no more than the window's bits
-pub count-within : (b : ℕ) (at : ℕ → ℕ → ℕ) (xs : List ℕ) (window : Window) (ones : ℕ) → HasWindow b xs window → ones ≡ count_by (λ (bit : Bool). bit) (list_in b at xs window) → ones ≤ window.len
-count-within b at xs window ones has is = ones_within (list_in b at xs window) window.len ones (sym (length-list b at xs window has)) is
+pub count-within : {b : ℕ} (at : ℕ → ℕ → ℕ) {xs : List ℕ} {window : Window} {ones : ℕ} → HasWindow b xs window → ones ≡ count_by (λ (bit : Bool). bit) (list_in b at xs window) → ones ≤ window.len
+count-within {b} at {xs} {window} {ones} has is = ones_within (list_in b at xs window) (sym (length-list at has)) is
 
-pub count-few : (b : ℕ) (at : ℕ → ℕ → ℕ) (xs : List ℕ) (window : Window) (ones : ℕ) → HasWindow b xs window → ones ≡ count_by (λ (bit : Bool). bit) (list_in b at xs window) → ones < 2 ^ 64
-count-few b at xs window ones has is = omega (arith, count-within b at xs window ones has is)
+pub count-few : {b : ℕ} (at : ℕ → ℕ → ℕ) {xs : List ℕ} {window : Window} {ones : ℕ} → HasWindow b xs window → ones ≡ count_by (λ (bit : Bool). bit) (list_in b at xs window) → ones < 2 ^ 64
+count-few {b} at {xs} {window} {ones} has is = omega (arith, count-within at has is)
 
 -- one element more
 pub count-element : (b : ℕ) (at : ℕ → ℕ → ℕ) → Permutes b (at b) → (xs : List ℕ) (first count step v m n : ℕ) → 0 < b → HasWindow b xs (elements_window b first count) → step < count → v ≡ slice_index xs (first + step) → v < 2 ^ b
     → m ≡ count_by (λ (bit : Bool). bit) (list_in b at xs (elements_window b first step)) → n ≡ count_ones v → m + n ≡ count_by (λ (bit : Bool). bit) (list_in b at xs (elements_window b first (step + 1)))
 count-element b at p xs first count step v m n some has more is small before ones =
-    count-parts (list_in b at xs (elements_window b first step)) (element_bits b at (slice_index xs (first + step))) (list_in b at xs (elements_window b first (step + 1))) m n
-    (list-element b at xs first count step some has more) before
+    count-parts (list_in b at xs (elements_window b first step)) (element_bits b at (slice_index xs (first + step)))
+    (list-element at first count step some has more) before
     (ones ∙ element-count b at p v small ∙ ap (λ (k : ℕ). count_by (λ (bit : Bool). bit) (element_bits b at k)) is)
 
 -- ---- whole elements in any order
@@ -57,9 +57,9 @@ module _ (b : ℕ) (at other : ℕ → ℕ → ℕ) (p : Permutes b (at b)) (q :
       let rest : List Bool = element_bits b at v in
       let m : ℕ = count_by (λ (bit : Bool). bit) front in
       let n : ℕ = count_by (λ (bit : Bool). bit) rest in
-      let one = count-parts front rest (list_in b at xs (elements_window b first (step + 1))) m n (list-element b at xs first count step some has (omega arith)) refl refl in
-      let two = count-parts (list_in b other xs (elements_window b first step)) (element_bits b other v) (list_in b other xs (elements_window b first (step + 1))) m n
-      (list-element b other xs first count step some has (omega arith)) (orders-upto step (omega arith)) (sym (element-ones b at p v) ∙ element-ones b other q v) in
+      let one = count-parts front rest {m = m} {n = n} (list-element at first count step some has (omega arith)) refl refl in
+      let two = count-parts (list_in b other xs (elements_window b first step)) (element_bits b other v)
+      (list-element other first count step some has (omega arith)) (orders-upto step (omega arith)) (sym (element-ones b at p v) ∙ element-ones b other q v) in
       rw same (sym one ∙ two)
 
   pub count-orders : count_by (λ (bit : Bool). bit) (list_in b at xs (elements_window b first count)) ≡ count_by (λ (bit : Bool). bit) (list_in b other xs (elements_window b first count))
@@ -80,7 +80,7 @@ module _ {b : ℕ} {xs : List ℕ} {first count size step : ℕ} (block : Block 
   count-block = split-count block.next (λ c i. i) block.upto.front m n before here
 
   pub count-block_few : m + n < 2 ^ 64
-  count-block_few = count-few b (λ c i. i) xs _ _ block.upto.front count-block
+  count-block_few = count-few (λ c i. i) block.upto.front count-block
 
 -- one of some words
 pub word-block : (b : ℕ) {xs : List ℕ} (first count step : ℕ) → IsWidth b → HasWindow b xs (elements_window b first (count * (64 / b))) → step < count → Block b xs first (count * (64 / b)) (64 / b) step
@@ -114,7 +114,7 @@ module _ (b : ℕ) {xs : List ℕ} (first count : ℕ) (width : IsWidth b) (has 
       → m + n ≡ count_by (λ (bit : Bool). bit) (list_in b (λ c i. i) xs (elements_window b first (count / (64 / b) * (64 / b))))
   count-fours m n before left =
       let parts = parted-words in
-      count-parts (list_in b (λ c i. i) xs (elements_window b first (count / (64 / b) / 4 * (4 * (64 / b))))) (list_in b (λ c i. i) xs (elements_window b (first + count / (64 / b) / 4 * (4 * (64 / b))) (count / (64 / b) % 4 * (64 / b)))) _ m n
+      count-parts (list_in b (λ c i. i) xs (elements_window b first (count / (64 / b) / 4 * (4 * (64 / b))))) (list_in b (λ c i. i) xs (elements_window b (first + count / (64 / b) / 4 * (4 * (64 / b))) (count / (64 / b) % 4 * (64 / b))))
       (list-elements_join b (λ c i. i) xs first count has first (first + count / (64 / b) / 4 * (4 * (64 / b))) (count / (64 / b) / 4 * (4 * (64 / b))) (count / (64 / b) % 4 * (64 / b)) (count / (64 / b) * (64 / b)) (omega arith) (omega arith) refl fours) before left
 
 -- the words of whole elements, and the elements that are left

@@ -111,8 +111,8 @@ width_power : (b : ℕ) → IsWidth b → (j : ℕ) × (b ≡ 2 ^ j)
 width_power b w = at_each_width (λ n. (j : ℕ) × (n ≡ 2 ^ j)) (3, refl) (4, refl) (5, refl) (6, refl) (7, refl) b w
 
 -- one block is in the reverse order
-pub ReversesBlocks-start : (b v all : ℕ) → IsWidth b → all ≡ 2 ^ b - 1 → ReversesBlocks b b all v v
-ReversesBlocks-start b v all w is =
+pub ReversesBlocks-start : (b : ℕ) {v all : ℕ} → IsWidth b → all ≡ 2 ^ b - 1 → ReversesBlocks b b all v v
+ReversesBlocks-start b {v} {all} w is =
     let power = width_power b w in
     record {
       halvings = power.0;
@@ -149,9 +149,9 @@ next b half i n lower now before power fits whole has other_way =
     }
 
 -- the halves of each block exchanged
-pub ReversesBlocks-next : (b size half lower now before : ℕ) → ReversesBlocks b size lower now before → 1 < size → half ≡ size / 2
+pub ReversesBlocks-next : {b size : ℕ} (half : ℕ) {lower now before : ℕ} → ReversesBlocks b size lower now before → 1 < size → half ≡ size / 2
     → ReversesBlocks b half (halved_blocks b half lower) (exchanged_bits b half (halved_blocks b half lower) now) before
-ReversesBlocks-next b size half lower now before exchange some is =
+ReversesBlocks-next {b} {size} half {lower} {now} {before} exchange some is =
     let found = halves size exchange.halvings exchange.power some in
     let same : half ≡ 2 ^ found.0 = let e = found.1 in omega arith in
     let twice : size ≡ 2 * half = let e = found.1 in omega arith in
@@ -162,8 +162,8 @@ ReversesBlocks-next b size half lower now before exchange some is =
     (subst (λ (s : ℕ). HasReversed n s now before) twice exchange.has_reversed)
 
 -- blocks of one bit in the reverse order
-reversed_bits : (b size lower now before : ℕ) → ReversesBlocks b size lower now before → size ≤ 1 → (p : ℕ) → p < b → bit_at now p ≡ bit_at before (b - 1 - p)
-reversed_bits b size lower now before exchange last p h =
+reversed_bits : {b size lower now before : ℕ} → ReversesBlocks b size lower now before → size ≤ 1 → (p : ℕ) → p < b → bit_at now p ≡ bit_at before (b - 1 - p)
+reversed_bits {b} {size} {lower} {now} {before} exchange last p h =
     let some = pow_pos exchange.halvings in
     let one : size ≡ 1 = omega arith in
     let n = exchange.blocks in
@@ -181,4 +181,4 @@ in_element high b at runs k h = grind (arith, runs k)
 
 pub ReversesBlocks-end : (high : Bool) (b : ℕ) (at : ℕ → ℕ → ℕ) → RunsFrom high b at → (size lower now before : ℕ) → ReversesBlocks b size lower now before → size ≤ 1 → element_bits b at now ≡ reverse (element_bits b at before)
 ReversesBlocks-end high b at runs size lower now before exchange last =
-    same_lists _ _ (grind (arith, length-element_bits, length-reverse)) (λ k d inside. grind (arith, length-element_bits, get-element_bits, length-reverse, get_or-reverse, in_element high b at runs k, mirrored high b at runs k, reversed_bits b size lower now before exchange last (at b k)))
+    same_lists _ _ (grind (arith, length-element_bits, length-reverse)) (λ k d inside. grind (arith, length-element_bits, get-element_bits, length-reverse, get_or-reverse, in_element high b at runs k, mirrored high b at runs k, reversed_bits exchange last (at b k)))

@@ -32,13 +32,13 @@ module _ (b : ℕ) (at : ℕ → ℕ → ℕ) (xs : List ℕ) (window : Window) 
   word-front narrow long edge has bits =
       let whole = word_whole b width narrow in
       let elements = elements_window b (window.start / b) (64 / b) in
-      let len = length-list b at xs elements (HasWindow-part b xs window elements has (omega arith) (omega arith)) in
+      let len = length-list at (HasWindow-part elements has (omega arith) (omega arith)) in
       record {
         some = omega arith;
         most = omega arith;
         within = long;
         edge = λ few more. ap (λ (n : ℕ). (window.start + n) % b) (sym whole) ∙ behind-mod b window.start (64 / b) (width_some b width) ∙ edge;
-        bits = bits ∙ sym (padded-all 64 _ (len ∙ whole)) ∙ ap (padded 64) (list-same b at xs (window_range window 0 64) elements (omega arith) (omega arith));
+        bits = bits ∙ sym (padded-all (len ∙ whole)) ∙ ap (padded 64) (list-same b at xs (window_range window 0 64) elements (omega arith) (omega arith));
       }
 
   -- the part of the first element, up to 64 bits of it
@@ -51,7 +51,7 @@ module _ (b : ℕ) (at : ℕ → ℕ → ℕ) (xs : List ℕ) (window : Window) 
       let len = first-len b front wide (omega arith) in
       let has_front : HasWindow b xs front = record { fits = has.fits; within = record { start = has.within.start; len = omega arith } } in
       let same = list-same b at xs (window_range window 0 (part.to - part.from)) (part_window b part) (omega arith) (omega arith) in
-      let holds = list-part b at xs part (HasPart-first b xs front front wide (omega arith) has_front (Walked-start b front)) in
+      let holds = list-part at (HasPart-first wide (omega arith) has_front (Walked-start b front)) in
       record {
         some = omega arith;
         most = omega arith;

@@ -126,39 +126,39 @@ joined-behind n k p q r s hp hq hr hs bound = same_lists _ _ (search (rules, pla
 
 -- ---- numbers of two words, joined
 
-pub number-joined-before : (high : Bool) (at : ℕ → ℕ → ℕ) → ((b : ℕ) → RunsFrom high b at) → (k : ℕ) → k ≤ 64 → (first second between words : List ℕ)
+pub number-joined-before : (high : Bool) {at : ℕ → ℕ → ℕ} → ((b : ℕ) → RunsFrom high b at) → {k : ℕ} → k ≤ 64 → (first second between words : List ℕ)
     → AreWords first → AreWords second → AreWords words → between ≡ words_between high first second → AreJoined at k first between words
     → element_bits 128 at (number_of_words words) ≡ drop k (element_bits 128 at (number_of_words first)) ++ take k (element_bits 128 at (number_of_words second))
-number-joined-before true at ends k bound first second between words one other made is joined =
+number-joined-before true {at} ends {k} bound first second between words one other made is joined =
     let j = rw is at joined in
     rw (halves-high at ends _ _ one.low, halves-high at ends _ _ other.low, halves-high at ends _ _ made.low, j.low, j.high)
     (joined-before 64 k _ _ _ _ (length-element_bits 64 at _) (length-element_bits 64 at _) (length-element_bits 64 at _) (length-element_bits 64 at _) bound)
-number-joined-before false at ends k bound first second between words one other made is joined =
+number-joined-before false {at} ends {k} bound first second between words one other made is joined =
     let j = rw is at joined in
     rw (halves-low at ends _ _ one.low, halves-low at ends _ _ other.low, halves-low at ends _ _ made.low, j.low, j.high)
     (joined-before 64 k _ _ _ _ (length-element_bits 64 at _) (length-element_bits 64 at _) (length-element_bits 64 at _) (length-element_bits 64 at _) bound)
 
-pub number-joined-behind : (high : Bool) (at : ℕ → ℕ → ℕ) → ((b : ℕ) → RunsFrom high b at) → (k skip : ℕ) → k ≤ 64 → skip ≡ 64 + k → (first second between words : List ℕ)
+pub number-joined-behind : (high : Bool) {at : ℕ → ℕ → ℕ} → ((b : ℕ) → RunsFrom high b at) → {k skip : ℕ} → k ≤ 64 → skip ≡ 64 + k → (first second between words : List ℕ)
     → AreWords first → AreWords second → AreWords words → between ≡ words_between high first second → AreJoined at k between second words
     → element_bits 128 at (number_of_words words) ≡ drop skip (element_bits 128 at (number_of_words first)) ++ take skip (element_bits 128 at (number_of_words second))
-number-joined-behind true at ends k skip bound sum first second between words one other made is joined =
+number-joined-behind true {at} ends {k} bound sum first second between words one other made is joined =
     let j = rw is at joined in
     rw (sum, halves-high at ends _ _ one.low, halves-high at ends _ _ other.low, halves-high at ends _ _ made.low, j.low, j.high)
     (joined-behind 64 k _ _ _ _ (length-element_bits 64 at _) (length-element_bits 64 at _) (length-element_bits 64 at _) (length-element_bits 64 at _) bound)
-number-joined-behind false at ends k skip bound sum first second between words one other made is joined =
+number-joined-behind false {at} ends {k} bound sum first second between words one other made is joined =
     let j = rw is at joined in
     rw (sum, halves-low at ends _ _ one.low, halves-low at ends _ _ other.low, halves-low at ends _ _ made.low, j.low, j.high)
     (joined-behind 64 k _ _ _ _ (length-element_bits 64 at _) (length-element_bits 64 at _) (length-element_bits 64 at _) (length-element_bits 64 at _) bound)
 
 -- the two words between
-pub between-high : (high : Bool) (first second : List ℕ) → high ≡ true → AreWords first → AreWords second
+pub between-high : {high : Bool} {first second : List ℕ} → high ≡ true → AreWords first → AreWords second
     → slice_index_or (second ++ first) 1 0 ∷ slice_index_or (second ++ first) 2 0 ∷ [] ≡ words_between high first second
-between-high high first second is one other = rw is
+between-high {high} {first} {second} is one other = rw is
     (two_words (λ first. slice_index_or (second ++ first) 1 0 ∷ slice_index_or (second ++ first) 2 0 ∷ [] ≡ slice_index second 1 ∷ slice_index first 0 ∷ [])
     (λ x y hx hy. two_words (λ second. slice_index_or (second ++ (x ∷ y ∷ [])) 1 0 ∷ slice_index_or (second ++ (x ∷ y ∷ [])) 2 0 ∷ [] ≡ slice_index second 1 ∷ x ∷ []) (λ z w hz hw. refl) second other) first one)
 
-pub between-low : (high : Bool) (first second : List ℕ) → high ≡ false → AreWords first → AreWords second
+pub between-low : {high : Bool} {first second : List ℕ} → high ≡ false → AreWords first → AreWords second
     → slice_index_or (first ++ second) 1 0 ∷ slice_index_or (first ++ second) 2 0 ∷ [] ≡ words_between high first second
-between-low high first second is one other = rw is
+between-low {high} {first} {second} is one other = rw is
     (two_words (λ first. slice_index_or (first ++ second) 1 0 ∷ slice_index_or (first ++ second) 2 0 ∷ [] ≡ slice_index first 1 ∷ slice_index second 0 ∷ [])
     (λ x y hx hy. two_words (λ second. slice_index_or ((x ∷ y ∷ []) ++ second) 1 0 ∷ slice_index_or ((x ∷ y ∷ []) ++ second) 2 0 ∷ [] ≡ y ∷ slice_index second 0 ∷ []) (λ z w hz hw. refl) second other) first one)

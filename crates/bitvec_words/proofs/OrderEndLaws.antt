@@ -12,8 +12,8 @@ use Rattle.bitvec_base.specs.ShiftLaws.{bit_at_shl, bit_at_shl_left, bit_at_shr}
 use Rattle.bitvec_words.specs.OrderEnd.{RunsFrom}
 
 -- which end that is, once it is known
-runs_from : (high found : Bool) (b : ℕ) (at : ℕ → ℕ → ℕ) → RunsFrom high b at → high ≡ found → RunsFrom found b at
-runs_from high found b at runs same = subst (λ (h : Bool). RunsFrom h b at) same runs
+runs_from : {high found : Bool} (b : ℕ) (at : ℕ → ℕ → ℕ) → RunsFrom high b at → high ≡ found → RunsFrom found b at
+runs_from b at runs same = subst (λ (h : Bool). RunsFrom h b at) same runs
 
 -- ---- an element whose bits stand elsewhere
 
@@ -39,28 +39,28 @@ moved_end b at v w k fits moved left =
 
 pub shr-low : (high : Bool) (b : ℕ) (at : ℕ → ℕ → ℕ) → RunsFrom high b at → high ≡ false → (v k : ℕ) → v < 2 ^ b → k < b → element_bits b at (v / 2 ^ k) ≡ shifted_start k (element_bits b at v)
 shr-low high b at ends is v k small h =
-    let runs = runs_from high false b at ends is in
+    let runs = runs_from b at ends is in
     moved_start b at v _ k (omega arith)
     (λ i short. grind (arith, runs i, runs (i + k), bit_at_shr v k i))
     (λ i below past. grind (arith, runs i, bit_at_shr v k i, bit_at_above v b (i + k) small))
 
 pub shl-high : (high : Bool) (b : ℕ) (at : ℕ → ℕ → ℕ) → RunsFrom high b at → high ≡ true → (v k : ℕ) → k < b → element_bits b at ((v * 2 ^ k) % 2 ^ b) ≡ shifted_start k (element_bits b at v)
 shl-high high b at ends is v k h =
-    let runs = runs_from high true b at ends is in
+    let runs = runs_from b at ends is in
     moved_start b at v _ k (omega arith)
     (λ i short. grind (arith, runs i, runs (i + k), bit_at_shl b v k (b - 1 - (i + k))))
     (λ i below past. grind (arith, runs i, bit_at_shl_left b v k (b - 1 - i)))
 
 pub shl-low : (high : Bool) (b : ℕ) (at : ℕ → ℕ → ℕ) → RunsFrom high b at → high ≡ false → (v k : ℕ) → k < b → element_bits b at ((v * 2 ^ k) % 2 ^ b) ≡ shifted_end k (element_bits b at v)
 shl-low high b at ends is v k h =
-    let runs = runs_from high false b at ends is in
+    let runs = runs_from b at ends is in
     moved_end b at v _ k (omega arith)
     (λ i low below. grind (arith, runs i, runs (i - k), bit_at_shl b v k (i - k)))
     (λ i below low. grind (arith, runs i, bit_at_shl_left b v k i))
 
 pub shr-high : (high : Bool) (b : ℕ) (at : ℕ → ℕ → ℕ) → RunsFrom high b at → high ≡ true → (v k : ℕ) → v < 2 ^ b → k < b → element_bits b at (v / 2 ^ k) ≡ shifted_end k (element_bits b at v)
 shr-high high b at ends is v k small h =
-    let runs = runs_from high true b at ends is in
+    let runs = runs_from b at ends is in
     moved_end b at v _ k (omega arith)
     (λ i low below. grind (arith, runs i, runs (i - k), bit_at_shr v k (b - 1 - i)))
     (λ i below low. grind (arith, runs i, bit_at_shr v k (b - 1 - i), bit_at_above v b (b - 1 - i + k) small))

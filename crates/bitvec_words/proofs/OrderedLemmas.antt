@@ -54,10 +54,10 @@ lacks-same b at p some xs want none =
     rw (all, first_place-other want n) refl
 
 -- elements of a memory
-pub list-elements_at : (b : ℕ) (at : ℕ → ℕ → ℕ) (xs : List ℕ) (first n : ℕ) → 0 < b → HasWindow b xs (elements_window b first n) → memory_bits b at (slice_range xs first (first + n)) ≡ list_in b at xs (elements_window b first n)
+pub list-elements_at : {b : ℕ} (at : ℕ → ℕ → ℕ) {xs : List ℕ} (first n : ℕ) → 0 < b → HasWindow b xs (elements_window b first n) → memory_bits b at (slice_range xs first (first + n)) ≡ list_in b at xs (elements_window b first n)
 unfolding window_of
-list-elements_at b at xs first n some has =
-    memory-range b at xs first (first + n) some (omega arith) (elements-inside b xs first n some has)
+list-elements_at {b} at {xs} first n some has =
+    memory-range b at xs first (first + n) some (omega arith) (elements-inside first n some has)
     ∙ range-same (memory_bits b at xs) (first * b) ((first + n) * b) (first * b) (first * b + n * b) refl (add-mul first n b)
 
 -- ---- the elements of a word
@@ -101,7 +101,7 @@ module _ (b : ℕ) (at : ℕ → ℕ → ℕ) (p : Permutes b (at b)) (width : I
       let first : slice_index xs step ≡ slice_index xs (0 + step) = ap (slice_index xs) (let same : step ≡ 0 + step = omega arith in same) in
       element-joined 64 at ordered part (step * b) (list_in b at xs (elements_window b 0 step)) (element_bits b at (slice_index xs step)) (sym passed) (omega arith) before placed
       ∙ ap (λ (n : ℕ). padded 64 (list_in b at xs (elements_window b 0 step) ++ element_bits b at n)) first
-      ∙ ap (padded 64) (list-element b at xs 0 (64 / b) step some has more)
+      ∙ ap (padded 64) (list-element at 0 (64 / b) step some has more)
 
   -- all of them
   pub word-all : (step : ℕ) → step ≡ 64 / b → padded 64 (list_in b at xs (elements_window b 0 step)) ≡ memory_bits b at xs
@@ -112,7 +112,7 @@ module _ (b : ℕ) (at : ℕ → ℕ → ℕ) (p : Permutes b (at b)) (width : I
       let wide = length-memory_bits b at xs in
       ap (λ (n : ℕ). padded 64 (list_in b at xs (elements_window b 0 n))) end
       ∙ ap (padded 64) (range-same (memory_bits b at xs) (0 * b) (0 * b + 64 / b * b) 0 64 (omega arith) (omega arith) ∙ range-all (memory_bits b at xs) 64 (omega arith))
-      ∙ padded-all 64 (memory_bits b at xs) (omega arith)
+      ∙ padded-all {b = 64} {list = memory_bits b at xs} (omega arith)
 
 -- ---- the elements of a block, as four words
 
@@ -130,9 +130,9 @@ module _ (b : ℕ) (at : ℕ → ℕ → ℕ) (p : Permutes b (at b)) (xs : List
   block-lacks lacking filled zero =
       let none = none-of_four 64 low (record { below = λ i h. h; apart = λ i j h k e. e }) lacking want filled one two three four zero in
       let all : None ≡ first_place want (list_in b low xs (elements_window b first (256 / b))) =
-      (rw (loaded, loaded-two, loaded-three, loaded-four) at none) ∙ ap (first_place want) (list-block b low xs first width narrow has) in
-      lacks-same b at p some (slice_range xs first (first + 256 / b)) want (all ∙ ap (first_place want) (sym (list-elements_at b low xs first (256 / b) some has)))
-      ∙ ap (first_place want) (list-elements_at b at xs first (256 / b) some has)
+      (rw (loaded, loaded-two, loaded-three, loaded-four) at none) ∙ ap (first_place want) (list-block low first width narrow has) in
+      lacks-same b at p some (slice_range xs first (first + 256 / b)) want (all ∙ ap (first_place want) (sym (list-elements_at low first (256 / b) some has)))
+      ∙ ap (first_place want) (list-elements_at at first (256 / b) some has)
 
   abbrev part : ℕ → List ℕ
   part place = slice_range xs place (place + 64 / b)
@@ -142,10 +142,10 @@ module _ (b : ℕ) (at : ℕ → ℕ → ℕ) (p : Permutes b (at b)) (xs : List
     here = HasWindow-elements b at xs first (256 / b) has place (64 / b) below fits
 
     held : (word : ℕ) → element_bits 64 low word ≡ list_in b low xs (elements_window b place (64 / b)) → HasElements b word (part place)
-    held word is = is ∙ sym (list-elements_at b low xs place (64 / b) some here)
+    held word is = is ∙ sym (list-elements_at low place (64 / b) some here)
 
     listed : memory_bits b at (part place) ≡ list_in b at xs (elements_window b place (64 / b))
-    listed = list-elements_at b at xs place (64 / b) some here
+    listed = list-elements_at at place (64 / b) some here
 
     -- as a word under the order
     ordered : (word made : ℕ) → element_bits 64 low word ≡ list_in b low xs (elements_window b place (64 / b)) → SameElements b at word made → element_bits 64 at made ≡ list_in b at xs (elements_window b place (64 / b))
@@ -162,4 +162,4 @@ module _ (b : ℕ) (at : ℕ → ℕ → ℕ) (p : Permutes b (at b)) (xs : List
         ordered (first + 2 * (64 / b)) (omega arith) (omega arith) three ordered_three loaded-three same-three,
         ordered (first + 3 * (64 / b)) (omega arith) (omega arith) four ordered_four loaded-four same-four,
       )
-      (list-block b at xs first width narrow has)
+      (list-block at first width narrow has)

@@ -14,21 +14,21 @@ use Rattle.bitvec_words.specs.WholeLaws.{HasWindow-part, whole-all}
 use Rattle.bitvec_words.specs.WordLaws.{width-some}
 
 -- an index of an element
-pub index-within : (b w s : ℕ) → IsWidth b → w ≡ b → s % w ≤ w
-index-within b w s width is = let below = mod_below s w (width-some b w width is) in omega arith
+pub index-within : {b w : ℕ} (s : ℕ) → IsWidth b → w ≡ b → s % w ≤ w
+index-within {b} {w} s width is = let below = mod_below s w (width-some width is) in omega arith
 
-pub index-below : (b w s : ℕ) → IsWidth b → w ≡ b → s % w < b
-index-below b w s width is = rw is (mod_below s b (width_some b width))
+pub index-below : {b w : ℕ} (s : ℕ) → IsWidth b → w ≡ b → s % w < b
+index-below {b} s width is = rw is (mod_below s b (width_some b width))
 
 -- ---- a front, and the elements of a word
 
-pub HasWindow-first_bits : (b : ℕ) (xs : List ℕ) (window front : Window) → front ≡ front_window window → HasWindow b xs window → HasWindow b xs front
-HasWindow-first_bits b xs window front is has = rw is (HasWindow-part b xs window (front_window window) has (omega arith) (omega arith))
+pub HasWindow-first_bits : {b : ℕ} {xs : List ℕ} {window front : Window} → front ≡ front_window window → HasWindow b xs window → HasWindow b xs front
+HasWindow-first_bits {b} {xs} {window} is has = rw is (HasWindow-part (front_window window) has (omega arith) (omega arith))
 
-pub HasWindow-word : (b : ℕ) (xs : List ℕ) (window : Window) → IsWidth b → b ≤ 64 → 64 ≤ window.len → window.start % b ≡ 0 → HasWindow b xs window → HasWindow b xs (elements_window b (window.start / b) (64 / b))
-HasWindow-word b xs window width narrow long edge has =
+pub HasWindow-word : {b : ℕ} {xs : List ℕ} {window : Window} → IsWidth b → b ≤ 64 → 64 ≤ window.len → window.start % b ≡ 0 → HasWindow b xs window → HasWindow b xs (elements_window b (window.start / b) (64 / b))
+HasWindow-word {b} {xs} {window} width narrow long edge has =
     let start = whole-all b window.start edge in
-    HasWindow-part b xs window (elements_window b (window.start / b) (64 / b)) has (omega arith) (omega arith)
+    HasWindow-part (elements_window b (window.start / b) (64 / b)) has (omega arith) (omega arith)
 
 -- ---- an element of some, its number, and the bits before it
 

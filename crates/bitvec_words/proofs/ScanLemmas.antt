@@ -26,18 +26,18 @@ use Rattle.bitvec_words.specs.TouchedLaws.{touched-first, touched-whole}
 pub first-front : (want : Bool) (front rest whole : List Bool) (i : ℕ) → Some i ≡ first_place want front → front ++ rest ≡ whole → Some i ≡ first_place want whole
 first-front want front rest whole i here next = rw (← next, first_place-append want front rest, ← here) refl
 
-pub first-behind : (want : Bool) (front rest whole : List Bool) (n i : ℕ) → None ≡ first_place want front → Some i ≡ first_place want rest → n ≡ length front → front ++ rest ≡ whole → Some (n + i) ≡ first_place want whole
-first-behind want front rest whole n i none here long next = rw (← next, first_place-append want front rest, ← none, ← here, long) refl
+pub first-behind : (want : Bool) (front rest : List Bool) {whole : List Bool} {n : ℕ} (i : ℕ) → None ≡ first_place want front → Some i ≡ first_place want rest → n ≡ length front → front ++ rest ≡ whole → Some (n + i) ≡ first_place want whole
+first-behind want front rest i none here long next = rw (← next, first_place-append want front rest, ← none, ← here, long) refl
 
 pub first-lacks : (want : Bool) (front rest whole : List Bool) → None ≡ first_place want front → None ≡ first_place want rest → front ++ rest ≡ whole → None ≡ first_place want whole
 first-lacks want front rest whole none here next = rw (← next, first_place-append want front rest, ← none, ← here) refl
 
 -- what is behind has it, or lacks it, and then the front decides
-pub last-behind : (want : Bool) (front rest whole : List Bool) (n i : ℕ) → Some i ≡ last_place want rest → n ≡ length front → front ++ rest ≡ whole → Some (n + i) ≡ last_place want whole
-last-behind want front rest whole n i here long next = rw (← next, last_place-append want front rest, ← here, long) refl
+pub last-behind : (want : Bool) (front rest : List Bool) {whole : List Bool} {n : ℕ} (i : ℕ) → Some i ≡ last_place want rest → n ≡ length front → front ++ rest ≡ whole → Some (n + i) ≡ last_place want whole
+last-behind want front rest i here long next = rw (← next, last_place-append want front rest, ← here, long) refl
 
-pub last-front : (want : Bool) (front rest whole : List Bool) (found : Option ℕ) → None ≡ last_place want rest → found ≡ last_place want front → front ++ rest ≡ whole → found ≡ last_place want whole
-last-front want front rest whole found none here next = rw (← next, last_place-append want front rest, ← none) here
+pub last-front : (want : Bool) (front rest : List Bool) {whole : List Bool} {found : Option ℕ} → None ≡ last_place want rest → found ≡ last_place want front → front ++ rest ≡ whole → found ≡ last_place want whole
+last-front want front rest none here next = rw (← next, last_place-append want front rest, ← none) here
 
 -- ---- an element
 
@@ -86,8 +86,8 @@ last-must b at p v w n want is some small filled none =
     (lacks_filled b (element_bits b at v) want (length-element_bits b at v) (last_place-absent want (element_bits b at v) (sym none)))
 
 -- all its bits
-pub range-element : (b : ℕ) (at : ℕ → ℕ → ℕ) (v n : ℕ) → n ≡ b → slice_range (element_bits b at v) 0 n ≡ element_bits b at v
-range-element b at v n all = let long = length-element_bits b at v in rw all (range-all (element_bits b at v) b (omega arith))
+pub range-element : {b : ℕ} (at : ℕ → ℕ → ℕ) (v : ℕ) {n : ℕ} → n ≡ b → slice_range (element_bits b at v) 0 n ≡ element_bits b at v
+range-element {b} at v all = let long = length-element_bits b at v in rw all (range-all (element_bits b at v) b (omega arith))
 
 -- a place of it
 pub first-below : (b : ℕ) (at : ℕ → ℕ → ℕ) (v i : ℕ) (want : Bool) → Some i ≡ first_place want (element_bits b at v) → i < b
@@ -101,9 +101,9 @@ last-below b at v i want here =
 -- ---- the elements that are loaded, s being the first place of a window
 
 -- of whole elements a search loads no more than there are
-pub first_loads-elements : (b : ℕ) (at : ℕ → ℕ → ℕ) (xs : List ℕ) (first count : ℕ) (want : Bool) (found : Option ℕ) → 0 < b → HasWindow b xs (elements_window b first count) → found ≡ first_place want (list_in b at xs (elements_window b first count))
+pub first_loads-elements : {b : ℕ} (at : ℕ → ℕ → ℕ) {xs : List ℕ} (first count : ℕ) (want : Bool) {found : Option ℕ} → 0 < b → HasWindow b xs (elements_window b first count) → found ≡ first_place want (list_in b at xs (elements_window b first count))
     → first_loads b (elements_window b first count) found ≤ count
-first_loads-elements b at xs first count want found some has is = rw is (omega (arith, first_loads-most, touched-whole))
+first_loads-elements at first count want some has is = rw is (omega (arith, first_loads-most, touched-whole))
 
 -- of a search from the back: in a window that has a bit, or none
 pub last_loads-some : (b : ℕ) (window : Window) (found : Option ℕ) → 0 < window.len → ((i : ℕ) → found ≡ Some i → i < window.len) → 1 ≤ last_loads b window found
@@ -118,8 +118,8 @@ last_loads-some b window (Some i) some below =
 -- a place that is found lies in the window
 pub first-inside : (b : ℕ) (at : ℕ → ℕ → ℕ) (xs : List ℕ) (window : Window) (want : Bool) (i : ℕ) → HasWindow b xs window → Some i ≡ first_place want (list_in b at xs window) → i < window.len
 first-inside b at xs window want i has here =
-    omega (arith, first_place-below want (list_in b at xs window) i (sym here), length-list b at xs window has)
+    omega (arith, first_place-below want (list_in b at xs window) i (sym here), length-list at has)
 
-pub last-inside : (b : ℕ) (at : ℕ → ℕ → ℕ) (xs : List ℕ) (window : Window) (want : Bool) (found : Option ℕ) → HasWindow b xs window → found ≡ last_place want (list_in b at xs window) → (i : ℕ) → found ≡ Some i → i < window.len
-last-inside b at xs window want found has is i here =
-    omega (arith, last_place-below want (list_in b at xs window) i (sym is ∙ here), length-list b at xs window has)
+pub last-inside : {b : ℕ} (at : ℕ → ℕ → ℕ) {xs : List ℕ} {window : Window} (want : Bool) {found : Option ℕ} → HasWindow b xs window → found ≡ last_place want (list_in b at xs window) → (i : ℕ) → found ≡ Some i → i < window.len
+last-inside {b} at {xs} {window} want has is i here =
+    omega (arith, last_place-below want (list_in b at xs window) i (sym is ∙ here), length-list at has)

@@ -25,8 +25,8 @@ false-differs : (x : Bool) → differs false x ≡ x
 false-differs true = refl
 false-differs false = refl
 
-pub shifted-joined : (b bits k : ℕ) (first second : List Bool) → length first ≡ b → length second ≡ b → bits ≡ b → k < b → combined differs (shifted_start k first) (shifted_end (bits - k) second) ≡ drop k first ++ take k second
-shifted-joined b bits k first second long other same h =
+pub shifted-joined : {b bits : ℕ} (k : ℕ) (first second : List Bool) → length first ≡ b → length second ≡ b → bits ≡ b → k < b → combined differs (shifted_start k first) (shifted_end (bits - k) second) ≡ drop k first ++ take k second
+shifted-joined {b} {bits} k first second long other same h =
     let sum : bits - k ≡ length first - k = omega arith in
     ap (λ (n : ℕ). combined differs (shifted_start k first) (shifted_end n second)) sum
     ∙ shifted-across differs differs-false false-differs k first second (omega arith) (omega arith)

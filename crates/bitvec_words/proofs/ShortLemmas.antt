@@ -35,7 +35,7 @@ module _ (b : ℕ) (at : ℕ → ℕ → ℕ) (old mid : List ℕ) (window : Win
       let len = first-len b window some more in
       let wide = length-element_bits b at v in
       let place = div-add-mod' window.start b in
-      Writes-is b at old mid begin _ _ (Writes-same (part_window b part) begin (omega arith) step before)
+      Writes-is (Writes-same (part_window b part) begin (omega arith) step before)
       (range-shifted bits part.from t part.to (omega arith) (omega arith))
 
   pub stored-one : window.len ≤ t → Writes b at old mid window (take window.len bits)
@@ -53,7 +53,7 @@ module _ (b : ℕ) (at : ℕ → ℕ → ℕ) (old mid : List ℕ) (window : Win
       let wide = length-element_bits b at v in
       let place = div-add-mod' window.start b in
       let below = mod_below window.start b some in
-      Writes-is b at old new window _ _
-      (Writes-join b at old mid new begin (part_window b tail) window _ _ has refl (omega arith) (omega arith) stored-first after)
+      Writes-is
+      (Writes-join has refl (omega arith) (omega arith) stored-first after)
       (ap (λ (l : List Bool). take t bits ++ l) (range-started bits t window.len (window.len - t) (omega arith) (omega arith))
       ∙ take-range bits t window.len window.len (omega arith) (omega arith) refl)

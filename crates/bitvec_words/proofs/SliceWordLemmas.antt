@@ -134,7 +134,7 @@ module _ (high : Bool) (b : ℕ) (at : ℕ → ℕ → ℕ) (runs : (c : ℕ) �
         let count : n ≡ first + n - first = omega arith in
         same (digits_l (2 ^ b) n word) (word-digits b word width narrow)
         ∙ ap (memory_bits b at) (sym is ∙ ap (λ (m : ℕ). take m (drop first xs)) count)
-        ∙ list-elements_at b at xs first n (width_some b width) has
+        ∙ list-elements_at at first n (width_some b width) has
 
     pub word-stored : (ys : List ℕ) → ys ≡ write_at xs first (digits_l (2 ^ b) (64 / b) other) → Writes b at xs ys (elements_window b first (64 / b)) (element_bits 64 at word)
     word-stored ys is =
@@ -142,7 +142,7 @@ module _ (high : Bool) (b : ℕ) (at : ℕ → ℕ → ℕ) (runs : (c : ℕ) �
         let some = width_some b width in
         let digits = digits_l (2 ^ b) n other in
         let long = length-digits (2 ^ b) n other in
-        let room : first + length digits ≤ length xs = omega (arith, elements-inside b xs first n some has) in
+        let room : first + length digits ≤ length xs = omega (arith, elements-inside first n some has) in
         let bits = same-back word other same digits (word-digits b other width narrow) in
         rw is (record {
           bits = memory-write_at b at xs digits first some room ∙ ap (write_at (memory_bits b at xs) (first * b)) (sym bits);

@@ -22,8 +22,8 @@ use Rattle.bitvec_words.specs.TouchedLaws.{head_edge, touched-edge, touched-one,
 use Rattle.bitvec_words.specs.WholeLaws.{HasWindow-part}
 use Rattle.bitvec_words.proofs.ScanLemmas.{first-behind, first-front, first-inside, first-lacks, last-behind, last-front, last-inside}
 
-pub count-parts : (front rest whole : List Bool) (m n : ℕ) → front ++ rest ≡ whole → m ≡ count_by (λ (bit : Bool). bit) front → n ≡ count_by (λ (bit : Bool). bit) rest → m + n ≡ count_by (λ (bit : Bool). bit) whole
-count-parts front rest whole m n next first second =
+pub count-parts : (front rest : List Bool) {whole : List Bool} {m n : ℕ} → front ++ rest ≡ whole → m ≡ count_by (λ (bit : Bool). bit) front → n ≡ count_by (λ (bit : Bool). bit) rest → m + n ≡ count_by (λ (bit : Bool). bit) whole
+count-parts front rest next first second =
     rw (first, second, ← next) (sym (sum_by-append (λ (bit : Bool). cond bit 1 0) front rest))
 
 -- ---- a part
@@ -42,11 +42,11 @@ module _ {b : ℕ} {part : Part} (is : IsPart b part) where
 module _ {b : ℕ} {front rest window : Window} (split : Split b front rest window) where
   pub HasWindow-front : {xs : List ℕ} → HasWindow b xs window → HasWindow b xs front
   HasWindow-front {xs} has =
-      HasWindow-part b xs window front has (omega arith) (omega arith)
+      HasWindow-part front has (omega arith) (omega arith)
 
   pub HasWindow-behind : {xs : List ℕ} → HasWindow b xs window → HasWindow b xs rest
   HasWindow-behind {xs} has =
-      HasWindow-part b xs window rest has (omega arith) (omega arith)
+      HasWindow-part rest has (omega arith) (omega arith)
 
   pub all-front : rest.len ≡ 0 → front ≡ window
   all-front none =
@@ -74,10 +74,10 @@ module _ {b : ℕ} {front rest window : Window} (split : Split b front rest wind
 
   module _ (at : ℕ → ℕ → ℕ) {xs : List ℕ} (has : HasWindow b xs window) where
     pub list-split : list_in b at xs front ++ list_in b at xs rest ≡ list_in b at xs window
-    list-split = list-join b at xs front rest window has split.start split.next split.sum
+    list-split = list-join at front rest has split.start split.next split.sum
 
     front-long : front.len ≡ length (list_in b at xs front)
-    front-long = sym (length-list b at xs front (HasWindow-front has))
+    front-long = sym (length-list at (HasWindow-front has))
 
     -- ---- searches
 
@@ -89,39 +89,39 @@ module _ {b : ℕ} {front rest window : Window} (split : Split b front rest wind
       split-lacks none here = first-lacks want _ _ _ none here list-split
 
       pub split-behind : (i : ℕ) → None ≡ first_place want (list_in b at xs front) → Some i ≡ first_place want (list_in b at xs rest) → Some (front.len + i) ≡ first_place want (list_in b at xs window)
-      split-behind i none here = first-behind want _ _ _ front.len i none here front-long list-split
+      split-behind i none here = first-behind want _ _ i none here front-long list-split
 
       pub split-few : (i : ℕ) → None ≡ first_place want (list_in b at xs front) → Some i ≡ first_place want (list_in b at xs rest) → front.len + i < 2 ^ 64
       split-few i none here = omega (arith, first-inside b at xs window want _ has (split-behind i none here))
 
       pub split-last : (i : ℕ) → Some i ≡ last_place want (list_in b at xs rest) → Some (front.len + i) ≡ last_place want (list_in b at xs window)
-      split-last i here = last-behind want _ _ _ front.len i here front-long list-split
+      split-last i here = last-behind want _ _ i here front-long list-split
 
       pub split-last_few : (i : ℕ) → Some i ≡ last_place want (list_in b at xs rest) → front.len + i < 2 ^ 64
-      split-last_few i here = omega (arith, last-inside b at xs window want _ has (split-last i here) _ refl)
+      split-last_few i here = omega (arith, last-inside at want has (split-last i here) _ refl)
 
       pub split-last_front : (found : Option ℕ) → None ≡ last_place want (list_in b at xs rest) → found ≡ last_place want (list_in b at xs front) → found ≡ last_place want (list_in b at xs window)
-      split-last_front found none here = last-front want _ _ _ found none here list-split
+      split-last_front found none here = last-front want _ _ none here list-split
 
     -- ---- counts
 
     pub split-count : (m n : ℕ) → m ≡ count_by (λ (bit : Bool). bit) (list_in b at xs front) → n ≡ count_by (λ (bit : Bool). bit) (list_in b at xs rest) → m + n ≡ count_by (λ (bit : Bool). bit) (list_in b at xs window)
-    split-count m n first second = count-parts (list_in b at xs front) (list_in b at xs rest) _ m n list-split first second
+    split-count m n first second = count-parts (list_in b at xs front) (list_in b at xs rest) list-split first second
 
   -- ---- writes
 
   module _ (at : ℕ → ℕ → ℕ) {old mid new : List ℕ} (has : HasWindow b old window) where
     pub Writes-split : (list other : List Bool) → Writes b at old mid front list → Writes b at mid new rest other → Writes b at old new window (list ++ other)
-    Writes-split list other before after = Writes-join b at old mid new front rest window list other has split.start split.next split.sum before after
+    Writes-split list other before after = Writes-join has split.start split.next split.sum before after
 
     pub Writes-filled_split : (bit : Bool) → Writes b at old mid front (replicate front.len bit) → Writes b at mid new rest (replicate rest.len bit) → Writes b at old new window (replicate window.len bit)
-    Writes-filled_split bit before after = Writes-is b at old new window _ _ (Writes-split _ _ before after) (replicate-parts front.len rest.len window.len bit (sym split.sum))
+    Writes-filled_split bit before after = Writes-is (Writes-split _ _ before after) (replicate-parts front.len rest.len window.len bit (sym split.sum))
 
     -- what is behind is as it was when it is flipped
     pub Writes-flipped_split : Writes b at old mid front (map not (list_in b at old front)) → Writes b at mid new rest (map not (list_in b at mid rest)) → Writes b at old new window (map not (list_in b at old window))
     Writes-flipped_split before after =
-        let kept = list-behind b at old mid front rest _ (HasWindow-front has) (HasWindow-behind has) (omega arith) before in
-        Writes-is b at old new window _ _ (Writes-split _ _ before after)
+        let kept = list-behind (HasWindow-front has) (HasWindow-behind has) (omega arith) before in
+        Writes-is (Writes-split _ _ before after)
         (ap (λ (l : List Bool). map not (list_in b at old front) ++ map not l) kept ∙ sym (map-append not _ _) ∙ ap (map not) (list-split at has))
 
 -- ---- loads of searches

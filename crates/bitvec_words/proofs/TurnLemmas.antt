@@ -47,7 +47,7 @@ module _ (b : ℕ) (at : ℕ → ℕ → ℕ) (xs : List ℕ) (first count passe
       → count - next + last_loads b (elements_window b (first + passed) n) (Some i) ≡ last_loads b (elements_window b first count) (Some (passed * b + i))
   last-turn_loads i here =
       let behind = touched-whole b (first + next) (count - next) some in
-      let near = last-loads_front turn-split some (Some i) (last-inside b at xs (elements_window b (first + passed) n) want _ HasWindow-turn here) in
+      let near = last-loads_front turn-split some (Some i) (last-inside at want HasWindow-turn here) in
       let far = last-loads_behind (elements-split b first count passed some (omega arith)) some i in
       omega arith
 

@@ -39,7 +39,7 @@ module _ (b : ℕ) (at : ℕ → ℕ → ℕ) (xs : List ℕ) (first n : ℕ) (h
   HasWindow-elements place m low high =
       let start = mul-le-mul_left b low in
       let end = mul-le-mul_left b high in
-      HasWindow-part b xs (elements_window b first n) (elements_window b place m) has (omega arith) (omega arith)
+      HasWindow-part (elements_window b place m) has (omega arith) (omega arith)
 
   pub elements-bound : 0 < b → first + n < 2 ^ 64
   elements-bound some =
@@ -50,7 +50,7 @@ module _ (b : ℕ) (at : ℕ → ℕ → ℕ) (xs : List ℕ) (first n : ℕ) (h
   pub list-elements_join : (place next k m all : ℕ) → first ≤ place → place + all ≤ first + n → next ≡ place + k → all ≡ k + m
       → list_in b at xs (elements_window b place k) ++ list_in b at xs (elements_window b next m) ≡ list_in b at xs (elements_window b place all)
   list-elements_join place next k m all low high behind sum =
-      list-join b at xs (elements_window b place k) (elements_window b next m) (elements_window b place all) (HasWindow-elements place all low high)
+      list-join at (elements_window b place k) (elements_window b next m) (HasWindow-elements place all low high)
       refl (ap (λ (i : ℕ). i * b) behind ∙ add-mul place k b) (ap (λ (i : ℕ). i * b) sum ∙ add-mul k m b)
 
 -- ---- the first n of some elements, and those behind them
@@ -160,7 +160,7 @@ module _ (b : ℕ) {xs : List ℕ} (first : ℕ) (width : IsWidth b) (wide : 64 
   list-pair at =
       let inside = pair-inside in
       rw (← list-whole b at xs first (omega arith), ← list-whole b at xs (first + 1) inside)
-      (list-join b at xs (record { start = first * b; len = b }) (record { start = (first + 1) * b; len = b }) (elements_window b first (256 / b)) has refl (omega arith) (rw (block_pair b width wide) (omega arith)))
+      (list-join at (record { start = first * b; len = b }) (record { start = (first + 1) * b; len = b }) has refl (omega arith) (rw (block_pair b width wide) (omega arith)))
 
 -- the four words, e being the elements of each
 pub record Words (b : ℕ) (xs : List ℕ) (first e : ℕ) : Type 0 where
@@ -185,11 +185,11 @@ words b {xs} first width narrow has =
       four = inside (first + 3 * (64 / b)) (64 / b) (omega arith) (omega arith);
     }
 
-pub list-block : (b : ℕ) (at : ℕ → ℕ → ℕ) (xs : List ℕ) (first : ℕ) → IsWidth b → b ≤ 64 → HasWindow b xs (elements_window b first (256 / b))
+pub list-block : {b : ℕ} (at : ℕ → ℕ → ℕ) {xs : List ℕ} (first : ℕ) → IsWidth b → b ≤ 64 → HasWindow b xs (elements_window b first (256 / b))
     → (list_in b at xs (elements_window b first (64 / b)) ++ list_in b at xs (elements_window b (first + 64 / b) (64 / b)))
     ++ (list_in b at xs (elements_window b (first + 2 * (64 / b)) (64 / b)) ++ list_in b at xs (elements_window b (first + 3 * (64 / b)) (64 / b)))
     ≡ list_in b at xs (elements_window b first (256 / b))
-list-block b at xs first width narrow has =
+list-block {b} at {xs} first width narrow has =
     let e : ℕ = 64 / b in
     let all = block_words b width narrow in
     let join = list-elements_join b at xs first (256 / b) has in
@@ -248,12 +248,12 @@ module _ (b : ℕ) (at : ℕ → ℕ → ℕ) (xs : List ℕ) (window : Window) 
   list-touched =
       let rounded = div_ceil_times window.len b some in
       ap (λ (l : List Bool). l ++ behind) same_from_edge
-      ∙ list-join b at xs from_edge rest (elements_window b (window.start / b) (div_ceil window.len b)) HasWindow-touched refl refl (omega arith)
+      ∙ list-join at from_edge rest HasWindow-touched refl refl (omega arith)
 
   -- what is found in them is in the window, or behind it
   pub first-touched : (i : ℕ) → Some i ≡ first_place want (list_in b at xs (elements_window b (window.start / b) (div_ceil window.len b))) → then_some (nat_lt i window.len) i ≡ first_place want (list_in b at xs window)
   first-touched i here =
-      let long = length-list b at xs window has in
+      let long = length-list at has in
       let parts = here ∙ ap (first_place want) (sym list-touched) ∙ first_place-append want (list_in b at xs window) behind in
       found_front (first_place want (list_in b at xs window)) (first_place want behind) window.len i
       (λ j found. let below = first_place-below want (list_in b at xs window) j found in omega arith)
@@ -276,7 +276,7 @@ module _ (b : ℕ) (at : ℕ → ℕ → ℕ) (xs : List ℕ) (window : Window) 
       rw (inside, place) (omega arith))
       (λ (more : window.len ≤ i).
       let outside : then_some (nat_lt i window.len) i ≡ None = ap (λ (here : Bool). then_some here i) (le-ltb i window.len more) in
-      let most = first_loads-elements b at xs (window.start / b) (div_ceil window.len b) want _ some HasWindow-touched here in
+      let most = first_loads-elements at (window.start / b) (div_ceil window.len b) want some HasWindow-touched here in
       let all = touched-ceil b window.start window.len some edge in
       rw outside (omega arith))
       (cases_lt i window.len)

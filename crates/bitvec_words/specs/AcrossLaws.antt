@@ -47,11 +47,11 @@ first-range : (list : List Bool) (a b n s : ℕ) → s ≤ b → b ≤ n → a +
 first-range list a b n s short fits inside = same_lists _ _ (search (rules, places)) (λ k d below. grind (arith, places))
 
 -- the first bits of some elements are those of the first one
-pub first-values : (b : ℕ) (at : ℕ → ℕ → ℕ) (xs : List ℕ) (first count s : ℕ) → 0 < b → first < length xs
+pub first-values : {b : ℕ} (at : ℕ → ℕ → ℕ) {xs : List ℕ} (first count s : ℕ) → 0 < b → first < length xs
     → HasWindow b xs (elements_window b first count) → s < b → b ≤ count * b
     → take s (list_in b at xs (elements_window b first count)) ≡ take s (element_bits b at (slice_index xs first))
 unfolding window_of
-first-values b at xs first count s some inside has below more =
+first-values {b} at {xs} first count s some inside has below more =
     let long = length-memory_bits b at xs in
     first-range (memory_bits b at xs) (first * b) b (count * b) s (omega arith) more (omega arith)
     ∙ ap (take s) (element-range b at xs first inside)
@@ -61,10 +61,10 @@ pub Writes-behind : (b : ℕ) (at : ℕ → ℕ → ℕ) (old new : List ℕ) (w
     → part.start ≡ window.start + s → window.len ≡ s + part.len → length list ≡ part.len
     → Writes b at old new window (take s (list_in b at old window) ++ list) → Writes b at old new part list
 Writes-behind b at old new window part s list has start all long writes =
-    let whole = length-list b at old window has in
-    let same = Writes-is b at old new window _ _ writes (taken-front (list_in b at old window) list s (omega arith)) in
+    let whole = length-list at has in
+    let same = Writes-is writes (taken-front (list_in b at old window) list s (omega arith)) in
     record {
-      bits = same.bits ∙ sym (part-written (memory_bits b at old) window part s list (within-list b at old window has) start (omega arith));
+      bits = same.bits ∙ sym (part-written (memory_bits b at old) window part s list (within-list at has) start (omega arith));
       long = long;
       elements = writes.elements;
     }

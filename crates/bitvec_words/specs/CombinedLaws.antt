@@ -69,17 +69,17 @@ combined-kept op list is =
 pub length-elements : (b : ℕ) (at : ℕ → ℕ → ℕ) (xs : List ℕ) (start count step : ℕ) → HasWindow b xs (record { start = start; len = count * b }) → step < count → length (list_in b at xs (record { start = start; len = step * b })) ≡ step * b
 length-elements b at xs start count step has more =
     let order = mul-le-mul_left b more in
-    length-list b at xs (record { start = start; len = step * b }) (record { fits = has.fits; within = record { start = has.within.start; len = omega arith } })
+    length-list {b = b} at {xs = xs} {window = record { start = start; len = step * b }} (record { fits = has.fits; within = record { start = has.within.start; len = omega arith } })
 
 -- an element that stands behind those that were written
-pub element-kept : (b : ℕ) (at : ℕ → ℕ → ℕ) (old mid : List ℕ) (first count step : ℕ) (list : List Bool) → 0 < b → HasWindow b old (elements_window b first count) → step < count → Writes b at old mid (elements_window b first step) list
+pub element-kept : {b : ℕ} {at : ℕ → ℕ → ℕ} {old mid : List ℕ} (first count step : ℕ) {list : List Bool} → 0 < b → HasWindow b old (elements_window b first count) → step < count → Writes b at old mid (elements_window b first step) list
     → element_bits b at (slice_index mid (first + step)) ≡ element_bits b at (slice_index old (first + step))
-element-kept b at old mid first count step list some has more writes =
+element-kept {b} {at} {old} {mid} first count step {list} some has more writes =
     let order = mul-le-mul_left b more in
     let inside : first + step < length old = element_of b (first + step) 0 (length old) (omega arith) in
     let one : Window = record { start = (first + step) * b; len = b } in
     sym (list-whole b at mid (first + step) (omega arith))
-    ∙ list-behind b at old mid (elements_window b first step) one list
+    ∙ list-behind {behind = one}
     (record { fits = has.fits; within = record { start = has.within.start; len = omega arith } })
     (record { fits = has.fits; within = record { start = omega arith; len = omega arith } })
     (omega arith) writes
@@ -87,16 +87,16 @@ element-kept b at old mid first count step list some has more writes =
 
 -- ---- windows side by side
 
-pub Writes-both : (b : ℕ) (at : ℕ → ℕ → ℕ) (f : Bool → Bool → Bool) (old mid new : List ℕ) (first rest whole : Window) (other part all : List Bool) → HasWindow b old whole → first.start ≡ whole.start → rest.start ≡ first.start + first.len → whole.len ≡ first.len + rest.len
+pub Writes-both : {b : ℕ} (at : ℕ → ℕ → ℕ) (f : Bool → Bool → Bool) {old mid new : List ℕ} (first rest : Window) {whole : Window} (other part all : List Bool) → HasWindow b old whole → first.start ≡ whole.start → rest.start ≡ first.start + first.len → whole.len ≡ first.len + rest.len
     → ((a c : List Bool) → length a ≡ first.len → length c ≡ rest.len → combined f a other ++ combined f c part ≡ combined f (a ++ c) all)
     → Writes b at old mid first (combined f (list_in b at old first) other) → Writes b at mid new rest (combined f (list_in b at mid rest) part)
     → Writes b at old new whole (combined f (list_in b at old whole) all)
-Writes-both b at f old mid new first rest whole other part all has start next len meets before after =
+Writes-both {b} at f {old} {mid} {new} first rest {whole} other part all has start next len meets before after =
     let here : HasWindow b old first = record { fits = has.fits; within = record { start = omega arith; len = omega arith } } in
     let there : HasWindow b old rest = record { fits = has.fits; within = record { start = omega arith; len = omega arith } } in
-    let kept = list-behind b at old mid first rest _ here there (omega arith) before in
-    Writes-is b at old new whole _ _
-    (Writes-join b at old mid new first rest whole _ _ has start next len before after)
+    let kept = list-behind here there (omega arith) before in
+    Writes-is
+    (Writes-join has start next len before after)
     (ap (λ (l : List Bool). combined f (list_in b at old first) other ++ combined f l part) kept
-    ∙ meets (list_in b at old first) (list_in b at old rest) (length-list b at old first here) (length-list b at old rest there)
-    ∙ ap (λ (l : List Bool). combined f l all) (list-join b at old first rest whole has start next len))
+    ∙ meets (list_in b at old first) (list_in b at old rest) (length-list at here) (length-list at there)
+    ∙ ap (λ (l : List Bool). combined f l all) (list-join at first rest has start next len))

@@ -14,53 +14,53 @@ use Rattle.bitvec_words.specs.FieldLaws.{Writes-element, list-element}
 use Rattle.bitvec_words.specs.WholeLaws.{list-empty}
 
 -- n values of one kind, where n is told in another way
-pub replicate-is : (n m : ℕ) (bit : Bool) → n ≡ m → replicate n bit ≡ replicate m bit
-replicate-is n m bit same = ap (λ (k : ℕ). replicate k bit) same
+pub replicate-is : {n m : ℕ} (bit : Bool) → n ≡ m → replicate n bit ≡ replicate m bit
+replicate-is bit same = ap (λ (k : ℕ). replicate k bit) same
 
 pub replicate-parts : (n m all : ℕ) (bit : Bool) → n + m ≡ all → replicate n bit ++ replicate m bit ≡ replicate all bit
-replicate-parts n m all bit sum = replicate-append-replicate n m bit ∙ replicate-is (n + m) all bit sum
+replicate-parts n m all bit sum = replicate-append-replicate n m bit ∙ replicate-is bit sum
 
 -- ---- no element, and one more
 
-pub Writes-none_filled : (b : ℕ) (at : ℕ → ℕ → ℕ) (xs : List ℕ) (first count : ℕ) (bit : Bool) → HasWindow b xs (elements_window b first count) → Writes b at xs xs (elements_window b first 0) (replicate (0 * b) bit)
-Writes-none_filled b at xs first count bit has =
+pub Writes-none_filled : {b : ℕ} {at : ℕ → ℕ → ℕ} {xs : List ℕ} (first count : ℕ) (bit : Bool) → HasWindow b xs (elements_window b first count) → Writes b at xs xs (elements_window b first 0) (replicate (0 * b) bit)
+Writes-none_filled {b} {at} {xs} first count bit has =
     let none : 0 * b ≡ 0 = omega arith in
-    Writes-is b at xs xs (elements_window b first 0) _ _
-    (Writes-empty b at xs xs (elements_window b first 0) (record { fits = has.fits; within = record { start = has.within.start; len = omega arith } }) none refl)
-    (replicate-is 0 (0 * b) bit (sym none))
+    Writes-is
+    (Writes-empty {b = b} at {xs = xs} xs {window = elements_window b first 0} (record { fits = has.fits; within = record { start = has.within.start; len = omega arith } }) none refl)
+    (replicate-is bit (sym none))
 
-pub Writes-filled : (b : ℕ) (at : ℕ → ℕ → ℕ) → Permutes b (at b) → (old mid : List ℕ) (first count step : ℕ) (bit : Bool) → 0 < b → HasWindow b old (elements_window b first count) → step < count
+pub Writes-filled : {b : ℕ} {at : ℕ → ℕ → ℕ} → Permutes b (at b) → (old mid : List ℕ) (first count step : ℕ) (bit : Bool) → 0 < b → HasWindow b old (elements_window b first count) → step < count
     → Writes b at old mid (elements_window b first step) (replicate (step * b) bit)
     → Writes b at old (slice_set mid (first + step) (if bit then 2 ^ b - 1 else 0)) (elements_window b first (step + 1)) (replicate ((step + 1) * b) bit)
-Writes-filled b at p old mid first count step bit some has more before =
-    Writes-is b at old _ (elements_window b first (step + 1)) _ _
-    (Writes-element b at old mid first count step (if bit then 2 ^ b - 1 else 0) (replicate (step * b) bit) some has more before)
+Writes-filled {b} {at} p old mid first count step bit some has more before =
+    Writes-is
+    (Writes-element first count step (if bit then 2 ^ b - 1 else 0) some has more before)
     (ap (λ (l : List Bool). replicate (step * b) bit ++ l) (element-filled b at p bit)
     ∙ replicate-parts (step * b) b ((step + 1) * b) bit (omega arith))
 
-pub Writes-none_flipped : (b : ℕ) (at : ℕ → ℕ → ℕ) (xs : List ℕ) (first count : ℕ) → HasWindow b xs (elements_window b first count) → Writes b at xs xs (elements_window b first 0) (map not (list_in b at xs (elements_window b first 0)))
-Writes-none_flipped b at xs first count has =
+pub Writes-none_flipped : {b : ℕ} {at : ℕ → ℕ → ℕ} {xs : List ℕ} (first count : ℕ) → HasWindow b xs (elements_window b first count) → Writes b at xs xs (elements_window b first 0) (map not (list_in b at xs (elements_window b first 0)))
+Writes-none_flipped {b} {at} {xs} first count has =
     let none : 0 * b ≡ 0 = omega arith in
     let here : HasWindow b xs (elements_window b first 0) = record { fits = has.fits; within = record { start = has.within.start; len = omega arith } } in
     let nothing = list-empty b at xs (elements_window b first 0) none in
-    Writes-is b at xs xs (elements_window b first 0) _ _
-    (Writes-empty b at xs xs (elements_window b first 0) here none refl)
+    Writes-is
+    (Writes-empty at xs here none refl)
     (ap (map not) (sym nothing))
 
-pub Writes-flipped : (b : ℕ) (at : ℕ → ℕ → ℕ) → Permutes b (at b) → (old mid : List ℕ) (first count step v : ℕ) → 0 < b → HasWindow b old (elements_window b first count) → step < count → v ≡ slice_index mid (first + step) → v < 2 ^ b
+pub Writes-flipped : {b : ℕ} {at : ℕ → ℕ → ℕ} → Permutes b (at b) → (old mid : List ℕ) (first count step v : ℕ) → 0 < b → HasWindow b old (elements_window b first count) → step < count → v ≡ slice_index mid (first + step) → v < 2 ^ b
     → Writes b at old mid (elements_window b first step) (map not (list_in b at old (elements_window b first step)))
     → Writes b at old (slice_set mid (first + step) (2 ^ b - 1 - v)) (elements_window b first (step + 1)) (map not (list_in b at old (elements_window b first (step + 1))))
-Writes-flipped b at p old mid first count step v some has more is small before =
+Writes-flipped {b} {at} p old mid first count step v some has more is small before =
     let front = list_in b at old (elements_window b first step) in
     let here = element_bits b at (slice_index old (first + step)) in
-    Writes-is b at old _ (elements_window b first (step + 1)) _ _
-    (Writes-element b at old mid first count step (2 ^ b - 1 - v) (map not front) some has more before)
+    Writes-is
+    (Writes-element first count step (2 ^ b - 1 - v) some has more before)
     (ap (λ (l : List Bool). map not front ++ l)
     (element-flipped b at p v small
     ∙ ap (λ (n : ℕ). map not (element_bits b at n)) is
-    ∙ ap (map not) (element-kept b at old mid first count step (map not front) some has more before))
+    ∙ ap (map not) (element-kept first count step some has more before))
     ∙ sym (map-append not front here)
-    ∙ ap (map not) (list-element b at old first count step some has more))
+    ∙ ap (map not) (list-element at first count step some has more))
 
 -- ---- loads
 

@@ -114,8 +114,8 @@ unfolding padded
 take-padded b n list long = same_lists _ _ (search (rules, places)) (λ k d inside. grind (arith, places))
 
 -- what a word's first bits are
-pub take-word : (b n : ℕ) (bits list : List Bool) → bits ≡ padded b list → n ≡ length list → take n bits ≡ list
-take-word b n bits list word long = ap (take n) word ∙ take-padded b n list long
+pub take-word : (b : ℕ) {n : ℕ} {bits : List Bool} (list : List Bool) → bits ≡ padded b list → n ≡ length list → take n bits ≡ list
+take-word b {n} list word long = ap (take n) word ∙ take-padded b n list long
 
 pub length-padded : (b : ℕ) (list : List Bool) → length list ≤ b → length (padded b list) ≡ b
 unfolding padded
@@ -142,8 +142,8 @@ element-joined b at v w n list part long fits left right =
     ∙ padded-joined b n list part long fits
 
 -- what was put into an element at a place stands there
-pub word-there : (b from to : ℕ) (old new : List Bool) → length old ≡ b → to ≤ b → length new ≡ to - from → from ≤ to → slice_range (write_at old from new) from to ≡ new
-word-there b from to old new whole bound long order =
+pub word-there : {b : ℕ} (from to : ℕ) (old : List Bool) {new : List Bool} → length old ≡ b → to ≤ b → length new ≡ to - from → from ≤ to → slice_range (write_at old from new) from to ≡ new
+word-there from to old {new} whole bound long order =
     ap (λ (e : ℕ). slice_range (write_at old from new) from e) (let end : to ≡ from + length new = omega arith in end) ∙ range-write_at old from new (omega arith)
 
 -- the first n values, and those from there on

@@ -19,73 +19,73 @@ use Rattle.bitvec_words.specs.WordLaws.{fits-word}
 
 pub head-part : (b w : ℕ) (xs : List ℕ) (window : Window) (part : Part) → IsWidth b → w ≡ b → part ≡ first_part_of w window → 0 < window.len → HasWindow b xs window
     → HasPart b xs part
-head-part b w xs window part width is made more has = rw (made, is) (HasPart-first b xs window window (width_some b width) more has (Walked-start b window))
+head-part b w xs window part width is made more has = rw (made, is) (HasPart-first (width_some b width) more has (Walked-start b window))
 
-pub head-element : (b w : ℕ) (xs : List ℕ) (window : Window) → IsWidth b → w ≡ b → 0 < window.len → HasWindow b xs window → window.start / w < length xs
-head-element b w xs window width is more has = rw is ((HasPart-first b xs window window (width_some b width) more has (Walked-start b window)).element)
+pub head-element : {b w : ℕ} {xs : List ℕ} {window : Window} → IsWidth b → w ≡ b → 0 < window.len → HasWindow b xs window → window.start / w < length xs
+head-element {b} {w} {xs} {window} width is more has = rw is ((HasPart-first (width_some b width) more has (Walked-start b window)).element)
 
-pub behind-edge : (b t : ℕ) (window rest : Window) → IsWidth b → rest ≡ window_after t window → t ≡ min window.len (b - window.start % b) → t ≢ window.len → rest.start % b ≡ 0
-behind-edge b t window rest width made long left = rw made (head_edge b window.start t window.len (width_some b width) long left)
+pub behind-edge : (b : ℕ) {t : ℕ} (window : Window) {rest : Window} → IsWidth b → rest ≡ window_after t window → t ≡ min window.len (b - window.start % b) → t ≢ window.len → rest.start % b ≡ 0
+behind-edge b {t} window width made long left = rw made (head_edge b window.start t window.len (width_some b width) long left)
 
 -- ---- whole elements of a window, as many as n bits have, and what is behind them
 
-pub whole-window : (b w : ℕ) (xs : List ℕ) (window : Window) (n : ℕ) → IsWidth b → w ≡ b → HasWindow b xs window → window.start % b ≡ 0 → n ≤ window.len
+pub whole-window : {b w : ℕ} {xs : List ℕ} {window : Window} (n : ℕ) → IsWidth b → w ≡ b → HasWindow b xs window → window.start % b ≡ 0 → n ≤ window.len
     → HasWindow b xs (elements_window b (window.start / w) (n / w))
-whole-window b w xs window n width is has edge short =
+whole-window n width is has edge short =
     let start = has.within.start in
     let len = has.within.len in
     rw is (record { fits = has.fits; within = record { start = omega arith; len = omega arith } })
 
-pub whole-window_from : (b w : ℕ) (xs : List ℕ) (window : Window) (n : ℕ) → IsWidth b → w ≡ b → HasWindow b xs window → n ≤ window.len
+pub whole-window_from : {b w : ℕ} {xs : List ℕ} {window : Window} (n : ℕ) → IsWidth b → w ≡ b → HasWindow b xs window → n ≤ window.len
     → HasWindow b xs (elements_window_from b (window.start / w) (window.start % w) (n / w))
-whole-window_from b w xs window n width is has short =
+whole-window_from n width is has short =
     let start = has.within.start in
     let len = has.within.len in
     rw is (record { fits = has.fits; within = record { start = omega arith; len = omega arith } })
 
-pub whole-span : (b w : ℕ) (xs ys : List ℕ) (left right : Window) → IsWidth b → w ≡ b → HasSpan b xs ys left right → left.start % b ≡ 0 → right.start % b ≡ 0
+pub whole-span : {b w : ℕ} {xs ys : List ℕ} {left right : Window} → IsWidth b → w ≡ b → HasSpan b xs ys left right → left.start % b ≡ 0 → right.start % b ≡ 0
     → HasSpan b xs ys (elements_window b (left.start / w) (left.len / w)) (elements_window b (right.start / w) (left.len / w))
-whole-span b w xs ys left right width is span edge right_edge =
+whole-span {b} {w} {xs} {ys} {left} {right} width is span edge right_edge =
     let lengths = span.lengths in
     record {
-      window = whole-window b w xs left left.len width is span.window edge (omega arith);
-      beside = whole-window b w ys right left.len width is span.beside right_edge (omega arith);
+      window = whole-window left.len width is span.window edge (omega arith);
+      beside = whole-window left.len width is span.beside right_edge (omega arith);
       lengths = refl;
     }
 
-pub whole-span_from : (b w : ℕ) (xs ys : List ℕ) (left right : Window) → IsWidth b → w ≡ b → HasSpan b xs ys left right → left.start % b ≡ 0
+pub whole-span_from : {b w : ℕ} {xs ys : List ℕ} {left right : Window} → IsWidth b → w ≡ b → HasSpan b xs ys left right → left.start % b ≡ 0
     → HasSpan b xs ys (elements_window b (left.start / w) (left.len / w)) (elements_window_from b (right.start / w) (right.start % w) (left.len / w))
-whole-span_from b w xs ys left right width is span edge =
+whole-span_from {b} {w} {xs} {ys} {left} {right} width is span edge =
     let lengths = span.lengths in
     record {
-      window = whole-window b w xs left left.len width is span.window edge (omega arith);
-      beside = whole-window_from b w ys right left.len width is span.beside (omega arith);
+      window = whole-window left.len width is span.window edge (omega arith);
+      beside = whole-window_from left.len width is span.beside (omega arith);
       lengths = refl;
     }
 
-pub tail-inside : (b w : ℕ) (xs : List ℕ) (window : Window) (n : ℕ) → IsWidth b → w ≡ b → HasWindow b xs window → n ≤ window.len → 0 < n % w
+pub tail-inside : {b w : ℕ} {xs : List ℕ} {window : Window} (n : ℕ) → IsWidth b → w ≡ b → HasWindow b xs window → n ≤ window.len → 0 < n % w
     → window.start / w + n / w < length xs
-tail-inside b w xs window n width is has short left =
+tail-inside {b} {w} {xs} {window} n width is has short left =
     let start = has.within.start in
     let more = rw is at left in
     rw is (element_of b (window.start / b + n / b) 0 (length xs) (omega arith))
 
-pub tail-part : (b w : ℕ) (xs ys : List ℕ) (window : Window) (n : ℕ) → IsWidth b → w ≡ b → HasWindow b xs window → n ≤ window.len → 0 < n % w
+pub tail-part : {b w : ℕ} {xs : List ℕ} (ys : List ℕ) {window : Window} (n : ℕ) → IsWidth b → w ≡ b → HasWindow b xs window → n ≤ window.len → 0 < n % w
     → length ys ≡ length xs
     → HasPart b ys (record { element = window.start / w + n / w; from = 0; to = n % w })
-tail-part b w xs ys window n width is has short left same =
-    let inside = tail-inside b w xs window n width is has short left in
+tail-part {b} {w} {xs} ys {window} n width is has short left same =
+    let inside = tail-inside n width is has short left in
     let bound : n % w ≤ b = rw is (omega arith) in
     record { element = omega arith; order = omega arith; bound = bound }
 
-pub tail-span : (b w : ℕ) (xs mid ys : List ℕ) (left right : Window) → IsWidth b → w ≡ b → HasSpan b xs ys left right → 0 < left.len % w → length mid ≡ length xs
+pub tail-span : {b w : ℕ} {xs mid ys : List ℕ} {left right : Window} → IsWidth b → w ≡ b → HasSpan b xs ys left right → 0 < left.len % w → length mid ≡ length xs
     → HasPartSpan b mid ys (tail_part_of w left) (window_after (left.len / w * w) right)
-tail-span b w xs mid ys left right width is span more same =
+tail-span {b} {w} {xs} {mid} {ys} {left} width is span more same =
     let lengths = span.lengths in
     let start = span.beside.within.start in
     let len = span.beside.within.len in
     record {
-      element = tail-part b w xs mid left left.len width is span.window (omega arith) more same;
+      element = tail-part mid left.len width is span.window (omega arith) more same;
       beside = record { fits = span.beside.fits; within = record { start = omega arith; len = omega arith } };
       lengths = omega arith;
       some = omega arith;
@@ -98,17 +98,17 @@ pub next-inside : (b : ℕ) (xs ys : List ℕ) (first skip count i : ℕ) → Ha
 next-inside b xs ys first skip count i has some more same =
     rw same (element_of b (first + i + 1) (skip - 1) (length xs) (omega (arith, mul-le-mul_left b more)))
 
-pub next-word : (b : ℕ) (xs : List ℕ) (first skip count i : ℕ) → IsWidth b → HasWindow b xs (elements_window_from b first skip count) → 0 < skip → i < count → first + i + 1 < 2 ^ 64
-next-word b xs first skip count i width has some more =
+pub next-word : {b : ℕ} {xs : List ℕ} (first skip count i : ℕ) → IsWidth b → HasWindow b xs (elements_window_from b first skip count) → 0 < skip → i < count → first + i + 1 < 2 ^ 64
+next-word {b} {xs} first skip count i width has some more =
     let here = next-inside b xs xs first skip count i has some more refl in
     fits-word b (first + i + 1) xs (elements_window_from b first skip count) width has (omega arith)
 
-pub from-inside : (b : ℕ) (xs ys : List ℕ) (first skip count i : ℕ) → HasWindow b xs (elements_window_from b first skip count) → 0 < skip → i ≤ count → length ys ≡ length xs
+pub from-inside : {b : ℕ} {xs : List ℕ} (ys : List ℕ) (first skip count i : ℕ) → HasWindow b xs (elements_window_from b first skip count) → 0 < skip → i ≤ count → length ys ≡ length xs
     → first + i < length ys
-from-inside b xs ys first skip count i has some most same =
+from-inside {b} {xs} ys first skip count i has some most same =
     rw same (element_of b (first + i) (skip - 1) (length xs) (omega (arith, mul-le-mul_left b most)))
 
-pub from-word : (b : ℕ) (xs : List ℕ) (first skip count i : ℕ) → IsWidth b → HasWindow b xs (elements_window_from b first skip count) → 0 < skip → i ≤ count → first + i < 2 ^ 64
-from-word b xs first skip count i width has some most =
-    let here = from-inside b xs xs first skip count i has some most refl in
+pub from-word : {b : ℕ} {xs : List ℕ} (first skip count i : ℕ) → IsWidth b → HasWindow b xs (elements_window_from b first skip count) → 0 < skip → i ≤ count → first + i < 2 ^ 64
+from-word {b} {xs} first skip count i width has some most =
+    let here = from-inside xs first skip count i has some most refl in
     fits-word b (first + i) xs (elements_window_from b first skip count) width has (omega arith)

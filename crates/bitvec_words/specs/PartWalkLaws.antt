@@ -18,12 +18,12 @@ use Rattle.bitvec_words.specs.MovedLaws.{element-joined, word-there, take-range}
 use Rattle.bitvec_words.specs.WholeLaws.{HasWindow-part}
 
 -- what is left of a window is one of the memory
-pub HasWindow-rest : (b : ℕ) (xs : List ℕ) (window rest : Window) → HasWindow b xs window → Walked b window rest → HasWindow b xs rest
-HasWindow-rest b xs window rest has walk = let end = walk.end in HasWindow-part b xs window rest has walk.start (omega arith)
+pub HasWindow-rest : {b : ℕ} {xs : List ℕ} {window rest : Window} → HasWindow b xs window → Walked b window rest → HasWindow b xs rest
+HasWindow-rest {b} {xs} {window} {rest} has walk = let end = walk.end in HasWindow-part rest has walk.start (omega arith)
 
 -- a part of what is left is one of an element of the memory
-pub HasPart-first : (b : ℕ) (xs : List ℕ) (window rest : Window) → 0 < b → 0 < rest.len → HasWindow b xs window → Walked b window rest → HasPart b xs (first_part_of b rest)
-HasPart-first b xs window rest some more has walk =
+pub HasPart-first : {b : ℕ} {xs : List ℕ} {window rest : Window} → 0 < b → 0 < rest.len → HasWindow b xs window → Walked b window rest → HasPart b xs (first_part_of b rest)
+HasPart-first {b} {xs} {window} {rest} some more has walk =
     let start = walk.start in
     record {
       element = div_below rest.start b (length xs) some (omega arith);
@@ -41,24 +41,24 @@ word-next b at xs window rest t n word element moved some more size step count h
     let start = walk.start in
     let end = walk.end in
     let part = first_part_of b rest in
-    let before = length-passed b at xs window rest has walk in
+    let before = length-passed at has walk in
     let next = length-first b at xs window rest some more has walk in
     let to : part.from + t ≡ part.to = omega arith in
-    let holds = list-part b at xs part (HasPart-first b xs window rest some more has walk) in
+    let holds = list-part at (HasPart-first some more has walk) in
     let bits : slice_range (element_bits b at element) part.from (part.from + t) ≡ list_in b at xs (part_window b part) =
     ap (λ (e : ℕ). slice_range (element_bits b at element) part.from e) to
     ∙ ap (λ (v : ℕ). slice_range (element_bits b at v) part.from part.to) loaded
     ∙ sym holds in
     element-joined 64 at word moved n (list_in b at xs (passed window rest)) (list_in b at xs (part_window b part)) (omega arith) (omega arith) held (put ∙ ap (λ l. write_at (replicate 64 false) n l) bits)
-    ∙ ap (padded 64) (list-next b at xs window rest t some more step has walk)
+    ∙ ap (padded 64) (list-next at some more step has walk)
 
 -- the window has one part more of the word
-pub Writes-next_field : (b : ℕ) (at : ℕ → ℕ → ℕ) (old mid new : List ℕ) (window rest : Window) (t n word element : ℕ) → 0 < b → 0 < rest.len → window.len ≤ 64 → t ≡ (first_part_of b rest).to - (first_part_of b rest).from → n ≡ window.len - rest.len → HasWindow b old window → Walked b window rest
+pub Writes-next_field : {b : ℕ} {at : ℕ → ℕ → ℕ} {old mid new : List ℕ} {window rest : Window} {t n : ℕ} (word element : ℕ) → 0 < b → 0 < rest.len → window.len ≤ 64 → t ≡ (first_part_of b rest).to - (first_part_of b rest).from → n ≡ window.len - rest.len → HasWindow b old window → Walked b window rest
     → element_bits b at element ≡ write_at (replicate b false) (first_part_of b rest).from (slice_range (element_bits 64 at word) n (n + t))
     → Writes b at old mid (passed window rest) (take (rest.start - window.start) (element_bits 64 at word))
     → Writes b at mid new (part_window b (first_part_of b rest)) (slice_range (element_bits b at element) (first_part_of b rest).from (first_part_of b rest).to)
     → Writes b at old new (passed window (window_after t rest)) (take (rest.start + t - window.start) (element_bits 64 at word))
-Writes-next_field b at old mid new window rest t n word element some more size step count has walk put before after =
+Writes-next_field {b} {at} {old} {mid} {new} {window} {rest} {t} {n} word element some more size step count has walk put before after =
     let start = walk.start in
     let part = first_part_of b rest in
     let wide = length-element_bits 64 at word in
@@ -66,7 +66,7 @@ Writes-next_field b at old mid new window rest t n word element some more size s
     let long = length-slice_range (element_bits 64 at word) n (n + t) (omega arith) in
     let passed-bits : rest.start - window.start ≡ n = omega arith in
     let stored : slice_range (element_bits b at element) part.from part.to ≡ slice_range (element_bits 64 at word) n (n + t) =
-    ap (λ l. slice_range l part.from part.to) put ∙ word-there b part.from part.to (replicate b false) _ zeros (omega arith) (omega arith) (omega arith) in
-    Writes-is b at old new (passed window (window_after t rest)) _ _
-    (Writes-next_part b at old mid new window rest t _ _ some more step has walk before after)
+    ap (λ l. slice_range l part.from part.to) put ∙ word-there part.from part.to (replicate b false) zeros (omega arith) (omega arith) (omega arith) in
+    Writes-is
+    (Writes-next_part some more step has walk before after)
     (rw (stored, passed-bits) (take-range (element_bits 64 at word) n (n + t) (rest.start + t - window.start) (omega arith) (omega arith) (omega arith)))

@@ -47,8 +47,8 @@ unfolding window_of
 list-same b at xs window other start len = rw (start, len) refl
 
 -- a window's end is a `usize`
-pub window-end : (b : ℕ) (xs : List ℕ) (window : Window) → HasWindow b xs window → window.start + window.len < 2 ^ 64
-window-end b xs window has = omega arith
+pub window-end : {b : ℕ} {xs : List ℕ} {window : Window} → HasWindow b xs window → window.start + window.len < 2 ^ 64
+window-end has = omega arith
 
 -- no bits
 pub list-empty : (b : ℕ) (at : ℕ → ℕ → ℕ) (xs : List ℕ) (window : Window) → window.len ≡ 0 → list_in b at xs window ≡ []
@@ -61,13 +61,13 @@ same-empty b at xs ys window other empty none =
     rw (range-none (memory_bits b at xs) window.start (window.start + window.len) (omega arith), range-none (memory_bits b at ys) other.start (other.start + other.len) (omega arith)) refl
 
 -- a window that lies in another
-pub HasWindow-part : (b : ℕ) (xs : List ℕ) (window part : Window) → HasWindow b xs window → window.start ≤ part.start → part.start + part.len ≤ window.start + window.len → HasWindow b xs part
-HasWindow-part b xs window part has low high =
+pub HasWindow-part : {b : ℕ} {xs : List ℕ} {window : Window} (part : Window) → HasWindow b xs window → window.start ≤ part.start → part.start + part.len ≤ window.start + window.len → HasWindow b xs part
+HasWindow-part part has low high =
     let start = has.within.start in
     let len = has.within.len in
     record { fits = has.fits; within = record { start = omega arith; len = omega arith } }
 
 -- the elements of a window of them lie in the memory
-pub elements-inside : (b : ℕ) (xs : List ℕ) (first n : ℕ) → 0 < b → HasWindow b xs (elements_window b first n) → first + n ≤ length xs
-elements-inside b xs first n some has =
+pub elements-inside : {b : ℕ} {xs : List ℕ} (first n : ℕ) → 0 < b → HasWindow b xs (elements_window b first n) → first + n ≤ length xs
+elements-inside {b} {xs} first n some has =
     le_of_mul-le-mul_right {m = first + n} {n = length xs} {k = b} (omega arith) some

@@ -19,8 +19,8 @@ use Rattle.bitvec_words.specs.FieldLaws.{element_of}
 pub word_whole : (b : ℕ) → IsWidth b → b ≤ 64 → 64 / b * b ≡ 64
 word_whole b w = at_each_width (λ n. n ≤ 64 → 64 / n * n ≡ 64) (λ _. refl) (λ _. refl) (λ _. refl) (λ _. refl) (λ narrow. absurd (omega arith)) b w
 
-pub width-some : (b w : ℕ) → IsWidth b → w ≡ b → 0 < w
-width-some b w width is = rw is (width_some b width)
+pub width-some : {b w : ℕ} → IsWidth b → w ≡ b → 0 < w
+width-some {b} width is = rw is (width_some b width)
 
 pub fits-word : (b e : ℕ) (xs : List ℕ) (window : Window) → IsWidth b → HasWindow b xs window → e ≤ length xs → e < 2 ^ 64
 fits-word b e xs window width has inside = omega (arith, mul-le-mul_left (length xs) (width_some b width))
@@ -32,15 +32,15 @@ pub inside : (b : ℕ) (xs ys : List ℕ) (first count i : ℕ) → IsWidth b �
 inside b xs ys first count i width has more same =
     rw same (element_of b (first + i) 0 (length xs) (omega (arith, mul-le-mul_left b more)))
 
-pub inside-word : (b : ℕ) (xs : List ℕ) (first count i : ℕ) → IsWidth b → HasWindow b xs (elements_window b first count) → i < count → first + i < 2 ^ 64
-inside-word b xs first count i width has more =
+pub inside-word : {b : ℕ} {xs : List ℕ} (first count i : ℕ) → IsWidth b → HasWindow b xs (elements_window b first count) → i < count → first + i < 2 ^ 64
+inside-word {b} {xs} first count i width has more =
     fits-word b (first + i) xs (elements_window b first count) width has (omega (arith, inside b xs xs first count i width has more refl))
 
 -- ---- lists
 
-pub padded-all : (b : ℕ) (list : List Bool) → length list ≡ b → padded b list ≡ list
+pub padded-all : {b : ℕ} {list : List Bool} → length list ≡ b → padded b list ≡ list
 unfolding padded
-padded-all b list long = same_lists _ _ (search (rules, places)) (λ k d inside. grind (arith, places))
+padded-all long = same_lists _ _ (search (rules, places)) (λ k d inside. grind (arith, places))
 
 pub take-all : (list : List Bool) (n : ℕ) → length list ≤ n → take n list ≡ list
 take-all list n long = same_lists _ _ (search (rules, places)) (λ k d inside. grind (arith, places))

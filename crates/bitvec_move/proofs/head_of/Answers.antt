@@ -11,7 +11,7 @@ pub returns-clause-part : goal.returns-clause-part
 returns-clause-part g c = c.first_part-part.ensures ∙ ap (λ (n : ℕ). first_part_of n c.args.window) c.width.ensures.is
 
 pub returns-clause-long : goal.returns-clause-long
-returns-clause-long g c = first_part-long _ _ _ c.args.window _ c.len.ensures c.first_part-part.ensures c.width.ensures.is
+returns-clause-long g c = first_part-long c.args.window c.len.ensures c.first_part-part.ensures c.width.ensures.is
 
 pub returns-clause-fits : goal.returns-clause-fits
-returns-clause-fits g c = head-fits _ _ c.args.window _ c.len.ensures c.first_part-part.ensures
+returns-clause-fits g c = head-fits _ c.args.window c.len.ensures c.first_part-part.ensures

@@ -6,10 +6,10 @@ pub returns-then-len-BITS-clause-writes : goal.returns-then-len-BITS-clause-writ
 returns-then-len-BITS-clause-writes g c =
     let width = g.met.C.Elem.BitStore.width_law in
     rw (c.store.ensures.numbers, c.filled.ensures)
-    (part-whole _ _ width (g.met.O.BitOrder.permutes _ width) _ _ _ c.requires (sym c.len.ensures ∙ c.if-len-BITS.true ∙ c.BITS.ensures))
+    (part-whole width (g.met.O.BitOrder.permutes _ width) _ _ _ c.requires (sym c.len.ensures ∙ c.if-len-BITS.true ∙ c.BITS.ensures))
 
 pub returns-clause-writes : goal.returns-clause-writes
 returns-clause-writes g c =
     let width = g.met.C.Elem.BitStore.width_law in
     rw (c.store-2.ensures.numbers, c.put.ensures, c.load-element.ensures.value, c.mask-mask.ensures, c.load-element.ensures.numbers)
-    (part-filled _ _ width (g.met.O.BitOrder.permutes _ width) _ _ _ c.requires)
+    (part-filled width (g.met.O.BitOrder.permutes _ width) _ _ _ c.requires)

@@ -5,4 +5,4 @@ pub returns-clause-writes : goal.returns-clause-writes
 returns-clause-writes g c =
     let width = g.met.C.Elem.BitStore.width_law in
     rw (c.store.ensures.numbers, c.flipped.ensures, c.load-element.ensures.value, c.load-element.ensures.numbers)
-    (part-flipped _ _ width (g.met.O.BitOrder.permutes _ width) _ _ c.requires)
+    (part-flipped width (g.met.O.BitOrder.permutes _ width) _ _ c.requires)

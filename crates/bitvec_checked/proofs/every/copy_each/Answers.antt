@@ -22,8 +22,8 @@ loop-place-init g c = Writes-start {at = g.O.BitOrder.at} c.requires.window (fir
 
 pub loop-place-preserved : goal.loop-place-preserved
 loop-place-preserved g c =
-    let long = length-list _ g.O.BitOrder.at _ _ c.requires.window in
-    let right_long = length-list _ g.O.BitOrder.at _ _ c.requires.right_window in
+    let long = length-list g.O.BitOrder.at c.requires.window in
+    let right_long = length-list g.O.BitOrder.at c.requires.right_window in
     let counted = rw c.div_ceil-place-end.ensures at c.loop-place-test.true in
     let below = place-below c.loop-place.place c.args.step c.args.window.len c.requires.some counted in
     let source = rw (c.requires.lengths, ← right_long) at counted in
@@ -32,6 +32,6 @@ loop-place-preserved g c =
 
 pub returns : goal.returns
 returns g c =
-    let long = length-list _ g.O.BitOrder.at _ _ c.requires.window in
+    let long = length-list g.O.BitOrder.at c.requires.window in
     let all : c.loop-place.place ≡ c.div_ceil-place-end.result = omega arith in
-    record { writes = Writes-is _ _ _ _ _ _ _ c.loop-place.invariant (first-all c.loop-place.place c.args.step _ _ c.requires.some (all ∙ c.div_ceil-place-end.ensures ∙ rw long refl)) }
+    record { writes = Writes-is c.loop-place.invariant (first-all c.loop-place.place c.args.step _ _ c.requires.some (all ∙ c.div_ceil-place-end.ensures ∙ rw long refl)) }

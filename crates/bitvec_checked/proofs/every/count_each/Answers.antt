@@ -12,7 +12,7 @@ bit_in-requires-clause-bound g c = place-below c.loop-place.place c.args.step c.
 
 pub loop-place-preserved : goal.loop-place-preserved
 loop-place-preserved g c =
-    let long = length-list _ g.O.BitOrder.at _ _ c.requires.window in
+    let long = length-list g.O.BitOrder.at c.requires.window in
     let counted = rw (c.div_ceil-place-end.ensures, ← long) at c.loop-place-test.true in
     let next = ones-next c.args.step _ c.loop-place.place c.bit_in.result counted c.bit_in.ensures in
     elim c.if-bit_in.branch [
@@ -22,6 +22,6 @@ loop-place-preserved g c =
 
 pub returns : goal.returns
 returns g c =
-    let long = length-list _ g.O.BitOrder.at _ _ c.requires.window in
+    let long = length-list g.O.BitOrder.at c.requires.window in
     let all : c.loop-place.place ≡ c.div_ceil-place-end.result = omega arith in
     c.loop-place.invariant ∙ ones-all c.args.step _ c.loop-place.place (all ∙ c.div_ceil-place-end.ensures ∙ rw long refl)

@@ -36,5 +36,5 @@ loop-from-preserved g c =
 
 pub returns : goal.returns
 returns g c =
-    let long = length-list _ g.O.BitOrder.at _ _ c.requires.window in
-    record { writes = stretch-all _ g.O.BitOrder.at _ _ c.args.window _ c.loop-from.from (omega arith) (length-with_every c.args.step (λ k. c.args.bit) _ ∙ long) c.loop-from.invariant.writes }
+    let long = length-list g.O.BitOrder.at c.requires.window in
+    record { writes = stretch-all c.args.window c.loop-from.from (omega arith) (length-with_every c.args.step (λ k. c.args.bit) _ ∙ long) c.loop-from.invariant.writes }

@@ -15,13 +15,13 @@ loop-place-init g c = Writes-start {at = g.O.BitOrder.at} c.requires.window (fir
 
 pub loop-place-preserved : goal.loop-place-preserved
 loop-place-preserved g c =
-    let long = length-list _ g.O.BitOrder.at _ _ c.requires.window in
+    let long = length-list g.O.BitOrder.at c.requires.window in
     let below = place-below c.loop-place.place c.args.step c.args.window.len c.requires.some (rw c.div_ceil-place-end.ensures at c.loop-place-test.true) in
     Writes-next (λ list. set list (c.loop-place.place * c.args.step) c.args.bit) c.requires.window c.loop-place.invariant c.set_in.ensures.writes
     (first-next c.loop-place.place c.args.step _ _ c.args.bit c.requires.some (omega arith) refl)
 
 pub returns : goal.returns
 returns g c =
-    let long = length-list _ g.O.BitOrder.at _ _ c.requires.window in
+    let long = length-list g.O.BitOrder.at c.requires.window in
     let all : c.loop-place.place ≡ c.div_ceil-place-end.result = omega arith in
-    record { writes = Writes-is _ _ _ _ _ _ _ c.loop-place.invariant (first-all c.loop-place.place c.args.step _ _ c.requires.some (all ∙ c.div_ceil-place-end.ensures ∙ rw long refl)) }
+    record { writes = Writes-is c.loop-place.invariant (first-all c.loop-place.place c.args.step _ _ c.requires.some (all ∙ c.div_ceil-place-end.ensures ∙ rw long refl)) }

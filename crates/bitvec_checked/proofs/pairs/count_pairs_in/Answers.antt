@@ -14,7 +14,7 @@ overflow_add-pairs g c =
     let list = combined (looks_for c.args.pair) first (list_in g.T.BitStore.BITS at (map g.T.BitStore.value c.args.right.now) c.args.right_window) in
     let from = c.loop-from.from in
     let to = from + c.min.result in
-    let left = length-list _ at _ _ c.requires.window in
+    let left = length-list at c.requires.window in
     let long = length-combined (looks_for c.args.pair) first (list_in g.T.BitStore.BITS at (map g.T.BitStore.value c.args.right.now) c.args.right_window) in
     let next = ones-more at g.met.O.BitOrder.permutes list from to c.pairs_word-word.result c.loop-from.pairs (omega arith) (omega (arith, long, left)) (omega arith) c.pairs_word-word.ensures c.loop-from.invariant.pairs in
     let most = ones-most list to (omega (arith, long, left)) in
@@ -26,7 +26,7 @@ loop-from-preserved g c =
     let first = list_in g.T.BitStore.BITS at (map g.T.BitStore.value c.args.elements.now) c.args.window in
     let right = list_in g.T.BitStore.BITS at (map g.T.BitStore.value c.args.right.now) c.args.right_window in
     let from = c.loop-from.from in
-    let left = length-list _ at _ _ c.requires.window in
+    let left = length-list at c.requires.window in
     let long = length-combined (looks_for c.args.pair) first right in
     record {
       fits = omega arith;
@@ -35,6 +35,6 @@ loop-from-preserved g c =
 
 pub returns : goal.returns
 returns g c =
-    let left = length-list _ g.O.BitOrder.at _ _ c.requires.window in
+    let left = length-list g.O.BitOrder.at c.requires.window in
     let all = length-combined (looks_for c.args.pair) (list_in g.T.BitStore.BITS g.O.BitOrder.at (map g.T.BitStore.value c.args.elements.now) c.args.window) (list_in g.T.BitStore.BITS g.O.BitOrder.at (map g.T.BitStore.value c.args.right.now) c.args.right_window) in
     c.loop-from.invariant.pairs ∙ ones-end _ c.loop-from.from (omega (arith, all, left))

@@ -14,7 +14,7 @@ returns-then-word-ne0 g c =
     let first = list_in g.T.BitStore.BITS at (map g.T.BitStore.value c.args.elements.now) c.args.window in
     let right = list_in g.T.BitStore.BITS at (map g.T.BitStore.value c.args.right.now) c.args.right_window in
     let from = c.loop-from.from in
-    let left = length-list _ at _ _ c.requires.window in
+    let left = length-list at c.requires.window in
     let long = length-combined (looks_for c.args.pair) first right in
     pair-found at g.met.O.BitOrder.permutes (combined (looks_for c.args.pair) first right) from (from + c.min.result) c.pairs_word-word.result (omega arith) (omega (arith, long, left)) (omega arith) c.pairs_word-word.ensures (λ none. absurd (omega arith))
 
@@ -24,7 +24,7 @@ loop-from-preserved g c =
     let first = list_in g.T.BitStore.BITS at (map g.T.BitStore.value c.args.elements.now) c.args.window in
     let right = list_in g.T.BitStore.BITS at (map g.T.BitStore.value c.args.right.now) c.args.right_window in
     let from = c.loop-from.from in
-    let left = length-list _ at _ _ c.requires.window in
+    let left = length-list at c.requires.window in
     let long = length-combined (looks_for c.args.pair) first right in
     let zero : c.pairs_word-word.result ≡ 0 = omega arith in
     let ones = ones_le_self c.pairs_word-word.result in
@@ -33,6 +33,6 @@ loop-from-preserved g c =
 
 pub returns : goal.returns
 returns g c =
-    let left = length-list _ g.O.BitOrder.at _ _ c.requires.window in
+    let left = length-list g.O.BitOrder.at c.requires.window in
     let all = length-combined (looks_for c.args.pair) (list_in g.T.BitStore.BITS g.O.BitOrder.at (map g.T.BitStore.value c.args.elements.now) c.args.window) (list_in g.T.BitStore.BITS g.O.BitOrder.at (map g.T.BitStore.value c.args.right.now) c.args.right_window) in
     pair-none _ c.loop-from.from (omega (arith, all, left)) c.loop-from.invariant.none

@@ -11,7 +11,7 @@ use Rattle.bitvec_checked_run.proofs.running.run_steps.Goals as goal
 
 pub loop-index-init : goal.loop-index-init
 loop-index-init g c = record {
-  ran = record { replies = search rules; writes = Writes-nothing _ _ _ _ _ c.requires.memories.has_window refl };
+  ran = record { replies = search rules; writes = Writes-nothing _ _ c.requires.memories.has_window refl };
   raw = search rules;
   rest = search rules;
   right = refl;

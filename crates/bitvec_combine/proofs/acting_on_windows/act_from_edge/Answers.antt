@@ -26,7 +26,7 @@ act_in_spans-last-requires g c =
     let met = c.requires.met in
     let fits = met.lengths in
     rw c.BITS-bits.ensures (record {
-      span = record { window = whole-window b b _ c.args.to c.args.from.len width refl met.window c.requires.edge fits; beside = whole-window_from b b _ c.args.from c.args.from.len width refl met.beside (omega arith); lengths = refl };
+      span = record { window = whole-window {w = b} c.args.from.len width refl met.window c.requires.edge fits; beside = whole-window_from {w = b} c.args.from.len width refl met.beside (omega arith); lengths = refl };
       bound = mod_below c.args.from.start b (width_some b width);
       phases = c.requires.phases;
       carried = c.requires.carried;
@@ -40,8 +40,8 @@ returns-then-passed-from-clause-done g c =
     let source = div-add-mod' c.args.from.start b in
     let edge = c.requires.edge in
     elim c.then-passed-from.branch [
-      | then-passed-from-via-then-passed-from w ↦ elements-all g.A.Act.Done _ _ (width_some _ g.met.C.Elem.BitStore.width_law) c.requires.met edge (rw c.BITS-bits.ensures at w.if-passed-from.true) done
-      | then-passed-from-via-else-passed-from+then-stops w ↦ beside-stop g.C.CellsRead.numbers g.A.Act.Done g.met.A.Act.stop_law _ _ _ _ c.requires.met (omega arith) (omega arith) refl
+      | then-passed-from-via-then-passed-from w ↦ elements-all g.A.Act.Done (width_some _ g.met.C.Elem.BitStore.width_law) c.requires.met edge (rw c.BITS-bits.ensures at w.if-passed-from.true) done
+      | then-passed-from-via-else-passed-from+then-stops w ↦ beside-stop g.C.CellsRead.numbers g.A.Act.Done g.met.A.Act.stop_law _ c.requires.met (omega arith) (omega arith) refl
           (whole_fits b c.args.from.len (c.args.from.len / b) (omega arith)) (sym w.stops.ensures ∙ w.if-stops.true) done
     ]
 
@@ -67,7 +67,7 @@ act_on_part-requires-clause-from g c =
     let place : (from.start + passed) / b ≡ from.start / b + count = add-mul-div_right from.start count some in
     let last = rw (c.BITS-bits.ensures, ← place) at c.act_in_spans-last.ensures.carried (sym c.stops.ensures ∙ c.if-stops.false) in
     rw (c.after.ensures, c.BITS-bits.ensures, c.act_in_spans-last.ensures.right.numbers) (record {
-      inside = HasWindow-part b _ from (window_after passed from) c.requires.met.beside (omega arith) (omega arith);
+      inside = HasWindow-part (window_after passed from) c.requires.met.beside (omega arith) (omega arith);
       some = omega arith;
       bound = omega arith;
       phases = rw (behind-mod b from.start count some) c.requires.phases;
@@ -106,6 +106,6 @@ returns-clause-right g c =
 pub act_on_part-requires-clause-part : goal.act_on_part-requires-clause-part
 act_on_part-requires-clause-part g c =
     let left : 0 < c.args.from.len % c.BITS-bits.result = let parts = div-add-mod' c.args.from.len c.BITS-bits.result in omega arith in
-    let inside = tail-inside _ _ _ c.args.to _ g.met.C.Elem.BitStore.width_law c.BITS-bits.ensures c.requires.met.window c.requires.met.lengths left in
+    let inside = tail-inside _ g.met.C.Elem.BitStore.width_law c.BITS-bits.ensures c.requires.met.window c.requires.met.lengths left in
     let bound = tail-bound _ _ _ _ (width_some _ g.met.C.Elem.BitStore.width_law) c.requires.edge c.requires.met.reach c.requires.met.lengths in
     record { element = rw (g.met.A.Act.kept_law _ _ _ _ _ _ _ c.act_in_spans-last.ensures.done) inside; order = omega arith; bound = rw c.BITS-bits.ensures bound }

@@ -21,7 +21,7 @@ after-none : (window : Window) → window_after 0 window ≡ window
 after-none window = window-same (window_after 0 window) window (omega arith) (omega arith)
 
 pub first-carry-requires : goal.first-carry-requires
-first-carry-requires g c = head-element _ _ _ c.args.from g.met.C.Elem.BitStore.width_law c.BITS-bits.ensures c.requires.met.some c.requires.met.beside
+first-carry-requires g c = head-element g.met.C.Elem.BitStore.width_law c.BITS-bits.ensures c.requires.met.some c.requires.met.beside
 
 pub act_on_part-carry-requires-clause-part : goal.act_on_part-carry-requires-clause-part
 act_on_part-carry-requires-clause-part g c =
@@ -31,8 +31,8 @@ pub after-rest-requires-clause-bound : goal.after-rest-requires-clause-bound
 after-rest-requires-clause-bound g c =
     elim c.if-to-bits.branch [
       | then-to-bits+else-passed-to+else-stops w ↦
-          let step = first_part-long w.len-passed.result _ _ c.args.to w.first_part-head.result w.len-passed.ensures w.first_part-head.ensures c.BITS-bits.ensures in
-          let more = (met-rest _ _ _ _ c.args.to c.args.from w.len-passed.result (width_some _ g.met.C.Elem.BitStore.width_law) c.requires.met refl step w.if-passed-to.false).some in
+          let step = first_part-long c.args.to w.len-passed.ensures w.first_part-head.ensures c.BITS-bits.ensures in
+          let more = (met-rest (width_some _ g.met.C.Elem.BitStore.width_law) c.requires.met refl step w.if-passed-to.false).some in
           rw w.passed-is (omega arith)
       | else-to-bits+else-to-bits-gt0 w ↦ rw w.passed-is (omega arith)
     ]
@@ -41,7 +41,7 @@ pub act_from_edge-requires-clause-edge : goal.act_from_edge-requires-clause-edge
 act_from_edge-requires-clause-edge g c =
     elim c.if-to-bits.branch [
       | then-to-bits+else-passed-to+else-stops w ↦
-          let step = first_part-long _ _ _ c.args.to _ w.len-passed.ensures w.first_part-head.ensures c.BITS-bits.ensures in
+          let step = first_part-long c.args.to w.len-passed.ensures w.first_part-head.ensures c.BITS-bits.ensures in
           rw (c.after.ensures, w.passed-is) (head_edge _ _ _ _ (width_some _ g.met.C.Elem.BitStore.width_law) step w.if-passed-to.false)
       | else-to-bits+else-to-bits-gt0 w ↦
           let start = rw c.BITS-bits.ensures at w.if-to-bits-gt0.false in
@@ -58,9 +58,9 @@ act_on_part-carry-requires-clause-from g c =
     let below = mod_below to.start b some in
     let is = c.first_part-head.ensures ∙ ap (λ (n : ℕ). first_part_of n to) c.BITS-bits.ensures in
     let index : c.first_part-head.result.from ≡ to.start % b = ap (λ (p : Part). p.from) is in
-    let step = first_part-long t b c.BITS-bits.result to c.first_part-head.result c.len-passed.ensures c.first_part-head.ensures c.BITS-bits.ensures in
+    let step = first_part-long to c.len-passed.ensures c.first_part-head.ensures c.BITS-bits.ensures in
     rw (c.until-met.ensures, index, c.first-carry.ensures.reads.numbers) (record {
-      inside = HasWindow-part b _ from _ met.beside (omega arith) (omega arith);
+      inside = HasWindow-part _ met.beside (omega arith) (omega arith);
       some = omega arith;
       bound = omega arith;
       phases = c.requires.phases;
@@ -73,7 +73,7 @@ returns-then-passed-to-clause-done g c =
     let to = c.args.to in let from = c.args.from in let t = c.len-passed.result in
     let some = width_some b g.met.C.Elem.BitStore.width_law in
     let met = c.requires.met in
-    let step = first_part-long t b c.BITS-bits.result to c.first_part-head.result c.len-passed.ensures c.first_part-head.ensures c.BITS-bits.ensures in
+    let step = first_part-long to c.len-passed.ensures c.first_part-head.ensures c.BITS-bits.ensures in
     let done = rw c.first-carry.ensures.reads.numbers at c.act_on_part-carry.ensures.done in
     elim c.then-passed-to.branch [
       | then-passed-to-via-then-passed-to w ↦
@@ -81,9 +81,9 @@ returns-then-passed-to-clause-done g c =
           let whole = c.until-met.ensures ∙ window-same _ from refl (omega arith) in
           rw (head-window b c.BITS-bits.result t to c.first_part-head.result c.len-passed.ensures c.first_part-head.ensures c.BITS-bits.ensures, ← c.len-passed.ensures, whole, all) at done
       | then-passed-to-via-else-passed-to+then-stops w ↦
-          let more = (met-rest b _ _ _ to from t some met refl step w.if-passed-to.false).some in
-          beside-stop g.C.CellsRead.numbers g.A.Act.Done g.met.A.Act.stop_law to from (record { start = to.start; len = t }) (record { start = from.start; len = t }) met refl refl refl (omega arith) (sym w.stops.ensures ∙ w.if-stops.true)
-          (head-done g.A.Act.Done b c.BITS-bits.result t to from c.until-met.result c.first_part-head.result c.len-passed.ensures c.first_part-head.ensures c.BITS-bits.ensures met.beside (omega arith) (c.until-met.ensures ∙ window-same _ _ refl (omega arith)) done)
+          let more = (met-rest some met refl step w.if-passed-to.false).some in
+          beside-stop g.C.CellsRead.numbers g.A.Act.Done g.met.A.Act.stop_law (record { start = from.start; len = t }) met refl refl refl (omega arith) (sym w.stops.ensures ∙ w.if-stops.true)
+          (head-done g.A.Act.Done to c.len-passed.ensures c.first_part-head.ensures c.BITS-bits.ensures met.beside (omega arith) (c.until-met.ensures ∙ window-same _ _ refl (omega arith)) done)
     ]
 
 pub act_from_edge-requires-clause-met : goal.act_from_edge-requires-clause-met
@@ -92,9 +92,9 @@ act_from_edge-requires-clause-met g c =
     let to = c.args.to in let from = c.args.from in
     elim c.if-to-bits.branch [
       | then-to-bits+else-passed-to+else-stops w ↦
-          let step = first_part-long w.len-passed.result b c.BITS-bits.result to w.first_part-head.result w.len-passed.ensures w.first_part-head.ensures c.BITS-bits.ensures in
+          let step = first_part-long to w.len-passed.ensures w.first_part-head.ensures c.BITS-bits.ensures in
           rw (c.after.ensures, c.after-rest.ensures, w.passed-is, w.left-is, w.right-is, w.act_on_part-carry.ensures.right.numbers, c.first-carry.ensures.reads.numbers)
-          (met-rest b _ _ _ to from _ (width_some _ g.met.C.Elem.BitStore.width_law) c.requires.met (g.met.A.Act.kept_law _ _ _ _ _ _ _ w.act_on_part-carry.ensures.done) step w.if-passed-to.false)
+          (met-rest (width_some _ g.met.C.Elem.BitStore.width_law) c.requires.met (g.met.A.Act.kept_law _ _ _ _ _ _ _ w.act_on_part-carry.ensures.done) step w.if-passed-to.false)
       | else-to-bits+else-to-bits-gt0 w ↦ rw (c.after.ensures, c.after-rest.ensures, w.passed-is, w.left-is, w.right-is, after-none to, after-none from, c.first-carry.ensures.reads.numbers) c.requires.met
     ]
 
@@ -104,7 +104,7 @@ act_from_edge-requires-clause-phases g c =
     let to = c.args.to in let from = c.args.from in
     elim c.if-to-bits.branch [
       | then-to-bits+else-passed-to+else-stops w ↦
-          let step = first_part-long w.len-passed.result b c.BITS-bits.result to w.first_part-head.result w.len-passed.ensures w.first_part-head.ensures c.BITS-bits.ensures in
+          let step = first_part-long to w.len-passed.ensures w.first_part-head.ensures c.BITS-bits.ensures in
           rw (c.after-rest.ensures, w.passed-is) (rest-phases b to.start from.start w.len-passed.result to.len _ (width_some _ g.met.C.Elem.BitStore.width_law) step w.if-passed-to.false c.requires.phases)
       | else-to-bits+else-to-bits-gt0 w ↦
           let edge : to.start % b ≡ 0 = let start = rw c.BITS-bits.ensures at w.if-to-bits-gt0.false in omega arith in
@@ -120,8 +120,8 @@ act_from_edge-requires-clause-carried g c =
       | then-to-bits+else-passed-to+else-stops w ↦
           let t = w.len-passed.result in
           let some = width_some b g.met.C.Elem.BitStore.width_law in
-          let step = first_part-long t b c.BITS-bits.result to w.first_part-head.result w.len-passed.ensures w.first_part-head.ensures c.BITS-bits.ensures in
-          let more = (met-rest b _ _ _ to from t some c.requires.met refl step w.if-passed-to.false).some in
+          let step = first_part-long to w.len-passed.ensures w.first_part-head.ensures c.BITS-bits.ensures in
+          let more = (met-rest some c.requires.met refl step w.if-passed-to.false).some in
           let len : from.len - (from.len - w.min.result) ≡ t = omega arith in
           rw (c.after-rest.ensures, w.passed-is, w.carry-is, w.right-is, w.act_on_part-carry.ensures.right.numbers, c.first-carry.ensures.reads.numbers)
           (rest-carried b _ from.start t some (rest-phases b to.start from.start t to.len _ some step w.if-passed-to.false c.requires.phases)
@@ -142,14 +142,14 @@ returns-clause-done g c =
       | then-to-bits+else-passed-to+else-stops w ↦
           let t = w.len-passed.result in
           let head = w.first_part-head.result in
-          let step = first_part-long t b c.BITS-bits.result to head w.len-passed.ensures w.first_part-head.ensures c.BITS-bits.ensures in
-          let more = (met-rest b _ _ _ to from t some met refl step w.if-passed-to.false).some in
+          let step = first_part-long to w.len-passed.ensures w.first_part-head.ensures c.BITS-bits.ensures in
+          let more = (met-rest some met refl step w.if-passed-to.false).some in
           let part : Window = record { start = from.start; len = t } in
           let rest = rw (c.after.ensures, c.after-rest.ensures, w.passed-is, w.left-is, w.right-is, w.act-is, w.act_on_part-carry.ensures.right.numbers, numbers) at c.act_from_edge.ensures.done in
           let cut : IsCut b to (record { start = to.start; len = t }) (window_after t to) = record { start = refl; next = refl; len = omega arith; edge = head_edge b to.start t to.len some step w.if-passed-to.false } in
           rw (← beside-join b g.O.BitOrder.at (g.D.CellsRead.numbers c.args.right.now) part (window_after t from) from to.len (to.len - t) met.beside refl refl (omega arith) (omega arith))
           (g.met.A.Act.join_law _ _ _ _ _ _ _ _ _ _ _ _ met.window cut
-          (head-done g.A.Act.Done b c.BITS-bits.result t to from w.until-met.result head w.len-passed.ensures w.first_part-head.ensures c.BITS-bits.ensures met.beside (omega arith) (w.until-met.ensures ∙ window-same _ _ refl (omega arith)) (rw numbers at w.act_on_part-carry.ensures.done)) rest)
+          (head-done g.A.Act.Done to w.len-passed.ensures w.first_part-head.ensures c.BITS-bits.ensures met.beside (omega arith) (w.until-met.ensures ∙ window-same _ _ refl (omega arith)) (rw numbers at w.act_on_part-carry.ensures.done)) rest)
       | else-to-bits+else-to-bits-gt0 w ↦
           let all : to.len - 0 ≡ to.len = omega arith in
           rw (c.after.ensures, c.after-rest.ensures, w.passed-is, w.left-is, w.right-is, w.act-is, after-none to, after-none from, all, numbers) at c.act_from_edge.ensures.done
@@ -164,8 +164,8 @@ returns-clause-right g c =
     elim c.if-to-bits.branch [
       | then-to-bits+else-passed-to+else-stops w ↦
           let t = w.len-passed.result in
-          let step = first_part-long t b c.BITS-bits.result to w.first_part-head.result w.len-passed.ensures w.first_part-head.ensures c.BITS-bits.ensures in
-          let more = (met-rest b _ _ _ to from t some c.requires.met refl step w.if-passed-to.false).some in
+          let step = first_part-long to w.len-passed.ensures w.first_part-head.ensures c.BITS-bits.ensures in
+          let more = (met-rest some c.requires.met refl step w.if-passed-to.false).some in
           let below = mod_below to.start b some in
           let len : from.len - (from.len - w.min.result) ≡ t = omega arith in
           let head = rw (w.until-met.ensures, len) at w.act_on_part-carry.ensures.right in

@@ -8,7 +8,7 @@ use Rattle.bitvec_combine.proofs.acting_on_windows.with_zeros.Goals as goal
 pub returns-then-len : goal.returns-then-len
 returns-then-len g c =
     let all : c.args.part.from + c.args.len ≡ c.args.part.to = omega arith in
-    rw all (sym (padded-all _ _ (length-part _ _ _ _ _ c.requires.inside)))
+    rw all (sym (padded-all (length-part _ _ _ _ _ c.requires.inside)))
 
 pub returns : goal.returns
 returns g c =

@@ -8,7 +8,7 @@ pub load-requires : goal.load-requires
 load-requires g c = rw c.loop-step.invariant.right.numbers (next-inside _ _ _ _ _ _ _ c.requires.stretch.span.beside (skip-some _ c.requires.stretch.phases) c.loop-step-test.true refl)
 
 pub overflow_add-source-in-loop-step : goal.overflow_add-source-in-loop-step
-overflow_add-source-in-loop-step g c = record { fits = next-word _ _ _ _ _ _ g.met.C.Elem.BitStore.width_law c.requires.stretch.span.beside (skip-some _ c.requires.stretch.phases) c.loop-step-test.true }
+overflow_add-source-in-loop-step g c = record { fits = next-word _ _ _ _ g.met.C.Elem.BitStore.width_law c.requires.stretch.span.beside (skip-some _ c.requires.stretch.phases) c.loop-step-test.true }
 
 pub overflow_add-first : goal.overflow_add-first
 overflow_add-first g c = record { fits = first-word _ g.met.C.Elem.BitStore.width_law c.requires.stretch c.loop-step.auto.step-end }

@@ -20,10 +20,10 @@ returns-then-met-eq0-clause-writes g c =
     let xs = g.C.CellsRead.numbers c.args.left.now in
     let ys = g.D.CellsRead.numbers c.args.right.now in
     let list = list_in b at xs c.args.to in
-    let long = length-list b at xs c.args.to c.requires.window in
-    let other_long = length-list b at ys c.args.from c.requires.right_window in
+    let long = length-list at c.requires.window in
+    let other_long = length-list at c.requires.right_window in
     let f = operator c.args.op in
-    Writes-is _ _ _ _ _ (combined f list []) _ c.combine_zeros.ensures.writes (combined-enough f list [] (list_in b at ys c.args.from) (λ k late inside. omega arith))
+    Writes-is c.combine_zeros.ensures.writes (combined-enough f list [] (list_in b at ys c.args.from) (λ k late inside. omega arith))
 
 pub returns-clause-writes : goal.returns-clause-writes
 returns-clause-writes g c =
@@ -39,12 +39,12 @@ returns-clause-writes g c =
     let y = list_in b at ys (window_after met from) in
     let right = c.requires.right_window in
     let begin = right.within.start in
-    let x_long = length-list b at ys (window_until (from.len - met) from) (record { fits = right.fits; within = record { start = begin; len = omega arith } }) in
-    let y_long = length-list b at ys (window_after met from) (record { fits = right.fits; within = record { start = omega arith; len = omega arith } }) in
-    Writes-both b at f _ _ _ (window_until (to.len - passed) to) (window_after passed to) to x [] (list_in b at ys from) c.requires.window refl (omega arith) (omega arith)
+    let x_long = length-list {b = b} at {xs = ys} {window = window_until (from.len - met) from} (record { fits = right.fits; within = record { start = begin; len = omega arith } }) in
+    let y_long = length-list {b = b} at {xs = ys} {window = window_after met from} (record { fits = right.fits; within = record { start = omega arith; len = omega arith } }) in
+    Writes-both at f (window_until (to.len - passed) to) (window_after passed to) x [] (list_in b at ys from) c.requires.window refl (omega arith) (omega arith)
     (λ (a d : List Bool) (a_long : length a ≡ to.len - (to.len - passed)) (d_long : length d ≡ to.len - passed).
-    combined-short f a d x (omega arith) ∙ combined-enough f (a ++ d) x y (λ k late inside. omega (arith, length-append a d)) ∙ ap (combined f (a ++ d)) (list-parted b at ys from met right (omega arith)))
-    (rw (c.until-first.ensures, c.until-other.ensures) at (combines-beside _ _ _ _ _ _ _ _ c.act.ensures.done.writes)) (rw c.after.ensures at c.combine_zeros-2.ensures.writes)
+    combined-short f a d x (omega arith) ∙ combined-enough f (a ++ d) x y (λ k late inside. omega (arith, length-append a d)) ∙ ap (combined f (a ++ d)) (list-parted at met right (omega arith)))
+    (rw (c.until-first.ensures, c.until-other.ensures) at (combines-beside _ _ _ c.act.ensures.done.writes)) (rw c.after.ensures at c.combine_zeros-2.ensures.writes)
 
 pub returns-then-met-eq0-clause-cost : goal.returns-then-met-eq0-clause-cost
 returns-then-met-eq0-clause-cost g c =

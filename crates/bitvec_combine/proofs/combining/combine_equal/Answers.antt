@@ -10,4 +10,4 @@ act_phased-requires-clause-met g c =
     record { window = search rules; beside = search rules; some = omega arith; lengths = omega arith; inside = λ less. absurd (omega arith); reach = omega arith }
 
 pub returns-clause-writes : goal.returns-clause-writes
-returns-clause-writes g c = combines-beside _ _ _ _ _ _ _ _ c.act_phased.ensures.done.writes
+returns-clause-writes g c = combines-beside _ _ _ c.act_phased.ensures.done.writes

@@ -6,11 +6,11 @@ use Rattle.bitvec_combine.proofs.combining.combine_zeros.Goals as goal
 pub returns-in-And-clause-writes : goal.returns-in-And-clause-writes
 returns-in-And-clause-writes g c =
     rw c.in-And.is
-    (Writes-is _ _ _ _ _ _ _ c.fill.ensures.writes
-    (ap (λ (n : ℕ). replicate n false) (sym (length-list _ _ _ _ c.requires)) ∙ combined-and_zeros _))
+    (Writes-is c.fill.ensures.writes
+    (ap (λ (n : ℕ). replicate n false) (sym (length-list _ c.requires)) ∙ combined-and_zeros _))
 
 pub returns-in-Or : goal.returns-in-Or
 returns-in-Or g c = record {
-  writes = Writes-is _ _ _ _ _ _ _ (Writes-nothing _ _ _ _ _ c.requires refl) (combined-kept c.args.op _ c.in-Or.is);
+  writes = Writes-is (Writes-nothing _ _ c.requires refl) (combined-kept c.args.op _ c.in-Or.is);
   cost = search rules;
 }

@@ -4,13 +4,13 @@ use Rattle.bitvec_words.proofs.CostLemmas.{reads-most}
 use Rattle.bitvec_combine.proofs.comparing.equal.Goals as goal
 
 pub returns-then-window-bits-clause-reads : goal.returns-then-window-bits-clause-reads
-returns-then-window-bits-clause-reads g c = reads-most c.equal_unshifted.ensures.reads (equal_enough _ _ _ _ g.met.C.Elem.BitStore.width_law (omega arith))
+returns-then-window-bits-clause-reads g c = reads-most c.equal_unshifted.ensures.reads (equal_enough _ _ g.met.C.Elem.BitStore.width_law (omega arith))
 
 pub returns-then-window-bits-clause-right : goal.returns-then-window-bits-clause-right
-returns-then-window-bits-clause-right g c = reads-most c.equal_unshifted.ensures.right (equal_enough_right _ _ _ _ g.met.C.Elem.BitStore.width_law (omega arith))
+returns-then-window-bits-clause-right g c = reads-most c.equal_unshifted.ensures.right (equal_enough_right _ _ g.met.C.Elem.BitStore.width_law (omega arith))
 
 pub returns-clause-reads : goal.returns-clause-reads
-returns-clause-reads g c = reads-most c.equal_in_phases.ensures.reads (equal_enough _ _ _ _ g.met.C.Elem.BitStore.width_law (omega arith))
+returns-clause-reads g c = reads-most c.equal_in_phases.ensures.reads (equal_enough _ _ g.met.C.Elem.BitStore.width_law (omega arith))
 
 pub returns-clause-right : goal.returns-clause-right
-returns-clause-right g c = reads-most c.equal_in_phases.ensures.right (equal_enough_right _ _ _ _ g.met.C.Elem.BitStore.width_law (omega arith))
+returns-clause-right g c = reads-most c.equal_in_phases.ensures.right (equal_enough_right _ _ g.met.C.Elem.BitStore.width_law (omega arith))

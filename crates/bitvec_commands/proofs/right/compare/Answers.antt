@@ -6,7 +6,7 @@ use Rattle.bitvec_commands.proofs.right.compare.Goals as goal
 pub returns-in-Eq : goal.returns-in-Eq
 returns-in-Eq g c =
     let fits = rw c.in-Eq.is at c.requires.fits_right in
-    let same = list-inside g.C.Elem.BitStore.BITS g.O.BitOrder.at (g.D.CellsRead.numbers c.args.right.now) c.args.source c.in-Eq.window c.requires.right_window fits in
+    let same = list-inside g.O.BitOrder.at c.requires.right_window fits in
     let answered = rw (c.inside.ensures, same) at c.block_eq.ensures in
     rw c.in-Eq.is
     (record { left = Answers-follow g.C.CellsRead _ _ _ _ c.args.target _ _ _ c.requires.window (record { reply = ap Bit answered.value; list = refl; reads = answered.reads }); right = answered.right })
@@ -14,7 +14,7 @@ returns-in-Eq g c =
 pub returns-in-Cmp : goal.returns-in-Cmp
 returns-in-Cmp g c =
     let fits = rw c.in-Cmp.is at c.requires.fits_right in
-    let same = list-inside g.C.Elem.BitStore.BITS g.O.BitOrder.at (g.D.CellsRead.numbers c.args.right.now) c.args.source c.in-Cmp.window c.requires.right_window fits in
+    let same = list-inside g.O.BitOrder.at c.requires.right_window fits in
     let answered = rw (c.inside-other.ensures, same) at c.compare.ensures in
     rw c.in-Cmp.is
     (record { left = Answers-follow g.C.CellsRead _ _ _ _ c.args.target _ _ _ c.requires.window (record { reply = ap Order answered.value; list = refl; reads = answered.reads }); right = answered.right })
@@ -22,7 +22,7 @@ returns-in-Cmp g c =
 pub returns-in-StartsWith : goal.returns-in-StartsWith
 returns-in-StartsWith g c =
     let fits = rw c.in-StartsWith.is at c.requires.fits_right in
-    let same = list-inside g.C.Elem.BitStore.BITS g.O.BitOrder.at (g.D.CellsRead.numbers c.args.right.now) c.args.source c.in-StartsWith.window c.requires.right_window fits in
+    let same = list-inside g.O.BitOrder.at c.requires.right_window fits in
     let answered = rw (c.inside-in-StartsWith.ensures, same) at c.starts_with.ensures in
     rw c.in-StartsWith.is
     (record { left = Answers-follow g.C.CellsRead _ _ _ _ c.args.target _ _ _ c.requires.window (record { reply = ap Bit answered.value; list = refl; reads = answered.reads }); right = answered.right })
@@ -30,7 +30,7 @@ returns-in-StartsWith g c =
 pub returns-in-EndsWith : goal.returns-in-EndsWith
 returns-in-EndsWith g c =
     let fits = rw c.in-EndsWith.is at c.requires.fits_right in
-    let same = list-inside g.C.Elem.BitStore.BITS g.O.BitOrder.at (g.D.CellsRead.numbers c.args.right.now) c.args.source c.in-EndsWith.window c.requires.right_window fits in
+    let same = list-inside g.O.BitOrder.at c.requires.right_window fits in
     let answered = rw (c.inside-in-EndsWith.ensures, same) at c.ends_with.ensures in
     rw c.in-EndsWith.is
     (record { left = Answers-follow g.C.CellsRead _ _ _ _ c.args.target _ _ _ c.requires.window (record { reply = ap Bit answered.value; list = refl; reads = answered.reads }); right = answered.right })
@@ -38,7 +38,7 @@ returns-in-EndsWith g c =
 pub returns-in-Contains : goal.returns-in-Contains
 returns-in-Contains g c =
     let fits = rw c.in-Contains.is at c.requires.fits_right in
-    let same = list-inside g.C.Elem.BitStore.BITS g.O.BitOrder.at (g.D.CellsRead.numbers c.args.right.now) c.args.source c.in-Contains.window c.requires.right_window fits in
+    let same = list-inside g.O.BitOrder.at c.requires.right_window fits in
     let answered = rw (c.inside-in-Contains.ensures, same) at c.contains.ensures in
     rw c.in-Contains.is
     (record { left = Answers-follow g.C.CellsRead _ _ _ _ c.args.target _ _ _ c.requires.window (record { reply = ap Bit answered.value; list = refl; reads = answered.reads }); right = answered.right })

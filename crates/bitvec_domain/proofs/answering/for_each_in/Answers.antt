@@ -20,7 +20,7 @@ f-answer-requires g c =
     let inv = c.loop-index.invariant in
     let more = c.loop-index-test.true in
     let bit = answered-shown _ _ _ _ _ _ _ _ _ c.requires.window inv.answered more _ c.get_bit-bit.ensures.value in
-    let long = length-list _ g.O.BitOrder.at _ _ c.requires.window in
+    let long = length-list g.O.BitOrder.at c.requires.window in
     subst (λ (b : Bool). Takes g.F.FnMut c.loop-index.f (c.loop-index.index, (b, tt))) (sym bit) (may-now _ _ _ _ _ inv.allowed (omega arith))
 
 pub replace_bit-requires-clause-window : goal.replace_bit-requires-clause-window
@@ -31,7 +31,7 @@ loop-index-preserved g c =
     let inv = c.loop-index.invariant in
     let more = c.loop-index-test.true in
     let bit = answered-shown _ _ _ _ _ _ _ _ _ c.requires.window inv.answered more _ c.get_bit-bit.ensures.value in
-    let long = length-list _ g.O.BitOrder.at _ _ c.requires.window in
+    let long = length-list g.O.BitOrder.at c.requires.window in
     let call = subst (λ (b : Bool). Called g.F.FnMut c.loop-index.f (c.loop-index.index, (b, tt)) c.f-answer.result c.f-answer.new.self) bit c.f-answer.ensures in
     record {
       answered = answered-next _ _ _ _ _ _ _ _ _ c.requires.window inv.answered more _ _ _ call (rw c.get_bit-bit.ensures.reads.numbers at c.replace_bit.ensures.writes);

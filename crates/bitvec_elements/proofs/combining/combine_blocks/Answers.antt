@@ -21,10 +21,10 @@ loop-start-preserved g c =
     record {
       fits = omega arith;
       count = c.hold-held.ensures.count ∙ c.loop-start.invariant.count;
-      writes = block-combined _ _ g.W.BitOrder.at g.P.BitOrder.at (operator c.args.op) _ _ _ _ c.args.to c.args.from _ _ _ c.loop-start.start _ c.args.from.len c.requires.window c.requires.right_window refl (omega arith) (omega arith) c.range.ensures (rw (c.min-in-loop-start.ensures, c.min-in-loop-start-2.ensures) at c.range-other.ensures) c.hold-held.ensures.bits c.loop-start.invariant.writes c.combine_block_in.ensures.writes;
+      writes = block-combined g.P.BitOrder.at (operator c.args.op) c.loop-start.start _ c.args.from.len c.requires.window c.requires.right_window refl (omega arith) (omega arith) c.range.ensures (rw (c.min-in-loop-start.ensures, c.min-in-loop-start-2.ensures) at c.range-other.ensures) c.hold-held.ensures.bits c.loop-start.invariant.writes c.combine_block_in.ensures.writes;
     }
 
 pub returns : goal.returns
 returns g c =
-    let long = length-list _ g.W.BitOrder.at _ _ c.requires.window in
-    record { writes = stretch-all _ g.W.BitOrder.at _ _ c.args.to _ c.loop-start.start (omega arith) (length-combined (operator c.args.op) _ _ ∙ long) c.loop-start.invariant.writes }
+    let long = length-list g.W.BitOrder.at c.requires.window in
+    record { writes = stretch-all c.args.to c.loop-start.start (omega arith) (length-combined (operator c.args.op) _ _ ∙ long) c.loop-start.invariant.writes }

@@ -4,4 +4,4 @@ use Rattle.bitvec_elements.proofs.comparing.eq_block_in.Goals as goal
 
 pub returns-then-left_window-right_window : goal.returns-then-left_window-right_window
 returns-then-left_window-right_window g c =
-    same-unequal _ _ _ _ (length-list _ _ _ _ c.requires.window) (length-list _ _ _ _ c.requires.right_window) c.if-left_window-right_window.true
+    same-unequal _ _ (length-list _ c.requires.window) (length-list _ c.requires.right_window) c.if-left_window-right_window.true

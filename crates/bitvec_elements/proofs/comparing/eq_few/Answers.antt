@@ -5,6 +5,6 @@ use Rattle.bitvec_elements.proofs.comparing.eq_few.Goals as goal
 
 pub returns : goal.returns
 returns g c =
-    let left = length-list _ g.W.BitOrder.at _ _ c.requires.span.window in
-    let right = length-list _ g.W.BitOrder.at _ _ c.requires.span.beside in
+    let left = length-list g.W.BitOrder.at c.requires.span.window in
+    let right = length-list g.W.BitOrder.at c.requires.span.beside in
     same-words g.W.BitOrder.at g.met.W.BitOrder.permutes _ _ _ _ (omega arith) (omega arith) (left ∙ c.requires.span.lengths ∙ sym right) c.few_word.ensures c.few_word-2.ensures

@@ -6,8 +6,8 @@ use Rattle.bitvec_elements.proofs.comparing.eq_in.Goals as goal
 
 pub returns-then-left_window-right_window : goal.returns-then-left_window-right_window
 returns-then-left_window-right_window g c =
-    same-unequal _ _ _ _ (length-list _ _ _ _ c.requires.window) (length-list _ _ _ _ c.requires.right_window) c.if-left_window-right_window.true
+    same-unequal _ _ (length-list _ c.requires.window) (length-list _ c.requires.right_window) c.if-left_window-right_window.true
 
 pub returns : goal.returns
 returns g c =
-    common-all _ _ _ _ (length-list _ g.O.BitOrder.at _ _ c.requires.window) (length-list _ g.P.BitOrder.at _ _ c.requires.right_window ∙ sym c.if-left_window-right_window.false) c.common_bits.ensures
+    common-all _ _ _ _ (length-list g.O.BitOrder.at c.requires.window) (length-list g.P.BitOrder.at c.requires.right_window ∙ sym c.if-left_window-right_window.false) c.common_bits.ensures

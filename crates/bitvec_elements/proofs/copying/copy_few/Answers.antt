@@ -7,7 +7,7 @@ use Rattle.bitvec_elements.proofs.copying.copy_few.Goals as goal
 pub returns : goal.returns
 returns g c =
     let list = list_in g.T.BitStore.BITS g.W.BitOrder.at (map g.T.BitStore.value c.args.right.now) c.args.from in
-    let long = length-list _ g.W.BitOrder.at _ _ c.requires.span.beside in
+    let long = length-list g.W.BitOrder.at c.requires.span.beside in
     let wrote = rw c.new-cells.ensures.numbers at c.store_few.ensures.writes in
-    let done = Writes-is _ _ _ _ _ _ list wrote (take-word 64 c.args.to.len _ list c.few_word-word.ensures (c.requires.span.lengths ∙ sym long)) in
+    let done = Writes-is wrote (take-word 64 list c.few_word-word.ensures (c.requires.span.lengths ∙ sym long)) in
     record { writes = record { bits = search (rules, done.bits); long = done.long; elements = search (rules, done.elements) } }

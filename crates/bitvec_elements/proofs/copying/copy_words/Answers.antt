@@ -18,12 +18,12 @@ loop-start-preserved g c =
     let end = start + c.min.result in
     let bound : end ≤ c.args.to.len = omega arith in
     let lengths = c.requires.lengths in
-    let right = length-list _ g.P.BitOrder.at _ _ c.requires.beside in
+    let right = length-list g.P.BitOrder.at c.requires.beside in
     let word = rw c.range.ensures at c.window_word-word.ensures in
     record {
       fits = bound;
-      writes = stretch-stored _ _ _ _ _ _ c.args.to _ _ _ start end c.requires.window (omega arith) bound (right ∙ sym lengths) c.range-in-loop-start.ensures refl
-          (copied-stretch g.W.BitOrder.at _ g.P.BitOrder.at _ c.args.from start end _ _ c.requires.beside (omega arith) (omega arith) refl word)
+      writes = stretch-stored _ _ start end c.requires.window (omega arith) bound (right ∙ sym lengths) c.range-in-loop-start.ensures refl
+          (copied-stretch g.W.BitOrder.at g.P.BitOrder.at start end _ c.requires.beside (omega arith) (omega arith) refl word)
           inv.writes c.store_few.ensures.writes;
       borrow = search rules;
     }
@@ -31,6 +31,6 @@ loop-start-preserved g c =
 pub returns : goal.returns
 returns g c =
     let inv = c.loop-start.invariant in
-    let right = length-list _ g.P.BitOrder.at _ _ c.requires.beside in
-    let done = stretch-all _ g.W.BitOrder.at _ _ c.args.to _ c.loop-start.start (omega arith) (right ∙ sym c.requires.lengths) inv.writes in
+    let right = length-list g.P.BitOrder.at c.requires.beside in
+    let done = stretch-all c.args.to c.loop-start.start (omega arith) (right ∙ sym c.requires.lengths) inv.writes in
     record { writes = record { bits = search (rules, done.bits); long = done.long; elements = search (rules, done.elements) } }

@@ -14,6 +14,6 @@ returns g c =
     let below = mod_below (c.args.to.len - f) b (width_some _ g.met.T.BitStore.width_law) in
     let l = c.args.to.len - (c.args.to.len - f) % c.BITS-bits.result in
     record {
-      writes = stretches-copied _ _ _ _ _ _ _ _ _ c.args.to c.args.from _ _ _ _ _ _ f l (record { window = c.requires.span.window; beside = c.requires.span.beside; lengths = c.requires.span.lengths }) (omega arith) (omega arith)
+      writes = stretches-copied _ c.args.to c.args.from f l (record { window = c.requires.span.window; beside = c.requires.span.beside; lengths = c.requires.span.lengths }) (omega arith) (omega arith)
           c.range.ensures c.range-2.ensures c.copy_part_in.ensures.writes c.range-3.ensures c.range-4.ensures c.copy_whole_in.ensures.writes c.range-place.ensures c.range-source.ensures c.copy_part_in-2.ensures.writes;
     }

@@ -4,10 +4,10 @@ use Rattle.bitvec_elements.proofs.ElementLemmas.{none-copied, part-copied}
 use Rattle.bitvec_elements.proofs.copying_elements.copy_part_in.Goals as goal
 
 pub returns-then-to-eq0 : goal.returns-then-to-eq0
-returns-then-to-eq0 g c = record { writes = none-copied _ _ _ _ c.args.to c.args.from c.requires.span c.if-to-eq0.true }
+returns-then-to-eq0 g c = record { writes = none-copied c.requires.span c.if-to-eq0.true }
 
 pub returns : goal.returns
 returns g c =
     let wrote = rw c.new-cells.ensures.numbers at c.store_part.ensures.writes in
-    let done = part-copied g.T.BitStore.value _ _ _ _ _ _ c.args.to c.args.from _ _ (width_some _ g.met.T.BitStore.width_law) c.BITS-bits.ensures c.requires.span c.if-to-eq0.false c.requires.phases c.requires.part c.first_part-part.ensures c.index-right-from.is wrote in
+    let done = part-copied g.T.BitStore.value _ (width_some _ g.met.T.BitStore.width_law) c.BITS-bits.ensures c.requires.span c.if-to-eq0.false c.requires.phases c.requires.part c.first_part-part.ensures c.index-right-from.is wrote in
     record { writes = record { bits = search (rules, done.bits); long = done.long; elements = search (rules, done.elements) } }

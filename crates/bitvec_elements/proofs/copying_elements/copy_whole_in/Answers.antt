@@ -4,5 +4,5 @@ use Rattle.bitvec_elements.proofs.copying_elements.copy_whole_in.Goals as goal
 
 pub returns : goal.returns
 returns g c = record {
-  writes = elements-copied g.T.BitStore.value _ _ _ _ _ _ c.args.to c.args.from (width_some _ g.met.T.BitStore.width_law) c.BITS-bits.ensures c.requires.span c.requires.edge c.requires.right_edge c.requires.whole c.copy_from_slice.ensures.after;
+  writes = elements-copied g.T.BitStore.value _ _ (width_some _ g.met.T.BitStore.width_law) c.BITS-bits.ensures c.requires.span c.requires.edge c.requires.right_edge c.requires.whole c.copy_from_slice.ensures.after;
 }

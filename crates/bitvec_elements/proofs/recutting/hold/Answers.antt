@@ -6,4 +6,4 @@ use Rattle.bitvec_elements.proofs.recutting.hold.Goals as goal
 
 pub returns-clause-bits : goal.returns-clause-bits
 returns-clause-bits g c =
-    Writes-holds _ _ _ _ _ _ (block-window _ _ _ _ g.met.T.BitStore.width_law (length-map c.args.block.now g.T.BitStore.value) c.requires.few refl c.requires.room) c.recut.ensures.writes
+    Writes-holds (block-window g.met.T.BitStore.width_law (length-map c.args.block.now g.T.BitStore.value) c.requires.few refl c.requires.room) c.recut.ensures.writes

@@ -13,7 +13,7 @@ loop-step-init g c = record {
 
 pub loop-step-preserved : goal.loop-step-preserved
 loop-step-preserved g c = record {
-  writes = word-recut _ _ _ _ g.W.BitOrder.at g.V.BitOrder.at _ _ _ _ c.args.to c.args.from c.loop-step.step _ _ _ g.met.T.BitStore.width_law g.met.U.BitStore.width_law c.BITS.ensures c.BITS-2.ensures c.requires.narrow c.requires.right_narrow
+  writes = word-recut g.V.BitOrder.at c.loop-step.step _ _ g.met.T.BitStore.width_law g.met.U.BitStore.width_law c.BITS.ensures c.BITS-2.ensures c.requires.narrow c.requires.right_narrow
       c.requires.pair c.requires.edge (omega arith) (omega arith) c.word_behind-word.ensures c.reordered-made.ensures c.loop-step.invariant.writes c.store_elements.ensures.writes;
   borrow = search rules;
 }
@@ -22,6 +22,6 @@ pub returns : goal.returns
 returns g c =
     let lengths = c.requires.pair.lengths in
     let whole = c.requires.whole in
-    let long = length-list _ g.V.BitOrder.at _ _ c.requires.pair.beside ∙ sym lengths in
-    let done = stretch-all _ g.W.BitOrder.at _ _ c.args.to _ _ (omega arith) long c.loop-step.invariant.writes in
+    let long = length-list g.V.BitOrder.at c.requires.pair.beside ∙ sym lengths in
+    let done = stretch-all c.args.to _ (omega arith) long c.loop-step.invariant.writes in
     record { writes = record { bits = search (rules, done.bits); long = done.long; elements = search (rules, done.elements) } }

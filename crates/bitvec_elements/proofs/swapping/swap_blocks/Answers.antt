@@ -18,21 +18,21 @@ pub loop-from-preserved : goal.loop-from-preserved
 loop-from-preserved g c =
     let inv = c.loop-from.invariant in
     let lengths = c.requires.pair.lengths in
-    let kept = Writes-holds _ g.W.BitOrder.at _ _ c.hold-held.result _ c.hold-held.ensures.window c.swap_with_block_in.ensures.right_writes in
+    let kept = Writes-holds c.hold-held.ensures.window c.swap_with_block_in.ensures.right_writes in
     record {
       fits = omega arith;
       count = sym (length-map c.swap_with_block_in.new.right g.T.BitStore.value) ∙ c.swap_with_block_in.ensures.right_writes.elements ∙ length-map c.hold-held.new.block g.T.BitStore.value ∙ c.hold-held.ensures.count ∙ inv.count;
-      writes = block-swapped _ _ g.W.BitOrder.at g.P.BitOrder.at _ _ _ _ _ c.args.left_window c.args.right_window _ _ _ c.loop-from.from _ _ c.requires.pair.window c.requires.pair.beside lengths (omega arith) (omega arith) c.range-part.ensures c.range-other.ensures inv.right_writes c.hold-held.ensures.bits inv.writes c.swap_with_block_in.ensures.writes;
-      right_writes = block-swapped _ _ g.P.BitOrder.at g.W.BitOrder.at _ _ _ _ _ c.args.right_window c.args.left_window _ _ _ c.loop-from.from _ _ c.requires.pair.beside c.requires.pair.window (sym lengths) (omega arith) (omega arith) c.range-other.ensures c.range-part.ensures inv.writes kept inv.right_writes c.copy_from_in.ensures.writes;
+      writes = block-swapped c.loop-from.from _ c.requires.pair.window c.requires.pair.beside lengths (omega arith) (omega arith) c.range-part.ensures c.range-other.ensures inv.right_writes c.hold-held.ensures.bits inv.writes c.swap_with_block_in.ensures.writes;
+      right_writes = block-swapped c.loop-from.from _ c.requires.pair.beside c.requires.pair.window (sym lengths) (omega arith) (omega arith) c.range-other.ensures c.range-part.ensures inv.writes kept inv.right_writes c.copy_from_in.ensures.writes;
     }
 
 pub returns : goal.returns
 returns g c =
     let inv = c.loop-from.invariant in
     let lengths = c.requires.pair.lengths in
-    let long = length-list _ g.W.BitOrder.at _ _ c.requires.pair.window in
-    let right_long = length-list _ g.P.BitOrder.at _ _ c.requires.pair.beside in
+    let long = length-list g.W.BitOrder.at c.requires.pair.window in
+    let right_long = length-list g.P.BitOrder.at c.requires.pair.beside in
     record {
-      writes = stretch-all _ g.W.BitOrder.at _ _ c.args.left_window _ c.loop-from.from (omega arith) (right_long ∙ sym lengths) inv.writes;
-      right_writes = stretch-all _ g.P.BitOrder.at _ _ c.args.right_window _ c.loop-from.from (omega arith) (long ∙ lengths) inv.right_writes;
+      writes = stretch-all c.args.left_window c.loop-from.from (omega arith) (right_long ∙ sym lengths) inv.writes;
+      right_writes = stretch-all c.args.right_window c.loop-from.from (omega arith) (long ∙ lengths) inv.right_writes;
     }

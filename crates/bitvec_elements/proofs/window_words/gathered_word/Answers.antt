@@ -31,7 +31,7 @@ loop-rest-preserved g c =
     let first = rw part at c.gathered_part-first.ensures in
     let start = inv.walk.start in
     rw c.after-rest.ensures (record {
-      walk = Walked-next _ _ _ _ some more step inv.walk;
+      walk = Walked-next some more step inv.walk;
       numbers = c.load-element.ensures.numbers ∙ inv.numbers;
-      value = gathered-next _ _ _ _ _ _ _ _ _ _ _ _ some more c.requires.bound step refl c.requires.window inv.walk loaded first c.moved-word.ensures inv.value;
+      value = gathered-next _ _ _ _ _ some more c.requires.bound step refl c.requires.window inv.walk loaded first c.moved-word.ensures inv.value;
     })

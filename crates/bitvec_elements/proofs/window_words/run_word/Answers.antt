@@ -14,8 +14,8 @@ returns-then-bits-le-WORD_BITS g c =
     let bits = memory_bits b g.W.BitOrder.at (map g.T.BitStore.value c.args.elements.now) in
     let size = c.if-window-eq-WORD_BITS.true in
     let whole = word_whole b g.met.T.BitStore.width_law (rw c.BITS-bits.ensures at c.if-bits-le-WORD_BITS.true) in
-    let listed = length-list b g.W.BitOrder.at _ window c.requires.window in
+    let listed = length-list g.W.BitOrder.at c.requires.window in
     (rw c.BITS-bits.ensures at c.word_behind.ensures)
     ∙ ap (λ (n : ℕ). slice_range bits (window.start / b * b + window.start % b) (window.start / b * b + window.start % b + n)) (whole ∙ sym size)
     ∙ ap (λ (s : ℕ). slice_range bits s (s + window.len)) (div-add-mod' window.start b)
-    ∙ sym (padded-all 64 _ (listed ∙ size))
+    ∙ sym (padded-all (listed ∙ size))

@@ -10,8 +10,8 @@ use borrow.Author.Count.{below_more}
 pub returns-then-block_eq-clause-value : goal.returns-then-block_eq-clause-value
 returns-then-block_eq-clause-value g c =
     let inv = c.loop-from.invariant in
-    let left = length-list _ g.O.BitOrder.at _ _ c.requires.window in
-    let right = length-list _ g.O.BitOrder.at _ _ c.requires.right_window in
+    let left = length-list g.O.BitOrder.at c.requires.window in
+    let right = length-list g.O.BitOrder.at c.requires.right_window in
     let here = stands-found g.O.BitOrder.at g.O.BitOrder.at c.loop-from.from c.requires.window c.requires.right_window (omega arith) inv.reads.numbers inv.right.numbers c.range-part.ensures c.block_eq.ensures.value in
     sym (stands_in-found _ _ c.loop-from.from (omega arith) (here ∙ c.if-block_eq.true))
 
@@ -33,6 +33,6 @@ loop-from-preserved g c =
 
 pub returns-clause-value : goal.returns-clause-value
 returns-clause-value g c =
-    let left = length-list _ g.O.BitOrder.at _ _ c.requires.window in
-    let right = length-list _ g.O.BitOrder.at _ _ c.requires.right_window in
+    let left = length-list g.O.BitOrder.at c.requires.window in
+    let right = length-list g.O.BitOrder.at c.requires.right_window in
     stands-nowhere _ _ c.loop-from.from (omega arith) c.loop-from.invariant.absent

@@ -8,7 +8,7 @@ returns-clause-writes g c =
     let has = c.requires.window in
     let len = c.args.window.len in
     let by = c.args.by in
-    let first = Writes-reversed _ _ _ _ c.args.window 0 by has (omega arith) c.requires.bound (rw c.range.ensures at c.reverse.ensures.writes) in
-    let second = Writes-reversed _ _ _ _ c.args.window by len (HasWindow-kept _ _ _ _ has first.elements) c.requires.bound (omega arith) (rw c.range-2.ensures at c.reverse-2.ensures.writes) in
+    let first = Writes-reversed 0 by has (omega arith) c.requires.bound (rw c.range.ensures at c.reverse.ensures.writes) in
+    let second = Writes-reversed by len (HasWindow-kept _ has first.elements) c.requires.bound (omega arith) (rw c.range-2.ensures at c.reverse-2.ensures.writes) in
     Writes-next reverse has (Writes-next (reversed_part by len) has first second refl) c.reverse-3.ensures.writes
-    (parts-rotate by len _ (sym (length-list _ g.O.BitOrder.at _ _ has)) c.requires.bound)
+    (parts-rotate by len _ (sym (length-list g.O.BitOrder.at has)) c.requires.bound)

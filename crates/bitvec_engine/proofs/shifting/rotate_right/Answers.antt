@@ -9,5 +9,5 @@ pub returns-clause-writes : goal.returns-clause-writes
 returns-clause-writes g c =
     let by = c.args.by in
     let list = list_in g.C.Elem.BitStore.BITS g.O.BitOrder.at (g.C.CellsRead.numbers c.args.cells.now) c.args.window in
-    Writes-is _ _ _ _ _ _ _ c.rotate_left.ensures.writes
-    (sym (rotated_right-left by list ∙ ap (λ (n : ℕ). rotated_left (n - by) list) (length-list _ g.O.BitOrder.at _ _ c.requires.window)))
+    Writes-is c.rotate_left.ensures.writes
+    (sym (rotated_right-left by list ∙ ap (λ (n : ℕ). rotated_left (n - by) list) (length-list g.O.BitOrder.at c.requires.window)))

@@ -12,5 +12,5 @@ returns-clause-writes g c =
     let cleared = rw c.range.ensures at c.fill.ensures.writes in
     let zeros : by - 0 ≡ by = omega arith in
     Writes-next (λ l. write_at l 0 (replicate (by - 0) false)) has copied
-    (Writes-range _ _ _ _ _ 0 by _ (HasWindow-kept _ _ _ _ has copied.elements) (omega arith) c.requires.bound cleared)
-    (rw zeros (copy-shifts_end by c.args.window.len _ (sym (length-list _ g.O.BitOrder.at _ _ has)) c.requires.bound))
+    (Writes-range 0 by (HasWindow-kept _ has copied.elements) (omega arith) c.requires.bound cleared)
+    (rw zeros (copy-shifts_end by c.args.window.len _ (sym (length-list g.O.BitOrder.at has)) c.requires.bound))

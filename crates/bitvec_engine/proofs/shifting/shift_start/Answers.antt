@@ -13,5 +13,5 @@ returns-clause-writes g c =
     let cleared = rw c.range.ensures at c.fill.ensures.writes in
     let zeros : len - (len - by) ≡ by = omega arith in
     Writes-next (λ l. write_at l (len - by) (replicate (len - (len - by)) false)) has copied
-    (Writes-range _ _ _ _ _ (len - by) len _ (HasWindow-kept _ _ _ _ has copied.elements) (omega arith) (omega arith) cleared)
-    (rw zeros (copy-shifts_start by len _ (sym (length-list _ g.O.BitOrder.at _ _ has)) c.requires.bound))
+    (Writes-range (len - by) len (HasWindow-kept _ has copied.elements) (omega arith) (omega arith) cleared)
+    (rw zeros (copy-shifts_start by len _ (sym (length-list g.O.BitOrder.at has)) c.requires.bound))

@@ -8,5 +8,5 @@ unfolding copied_within
 returns-clause-writes g c =
     let fits = c.requires.fits in let dest = c.args.dest in
     let moved = rw (c.range-target.ensures, c.range-source.ensures) at c.move_window.ensures.writes in
-    Writes-range _ _ _ _ _ dest (dest + (c.args.to - c.args.from)) _ c.requires.window (omega arith) fits.room
-    (Writes-is _ _ _ _ _ _ _ moved (list-range _ _ _ _ c.args.from c.args.to c.requires.window fits.order fits.source))
+    Writes-range dest (dest + (c.args.to - c.args.from)) c.requires.window (omega arith) fits.room
+    (Writes-is moved (list-range _ c.args.from c.args.to c.requires.window fits.order fits.source))

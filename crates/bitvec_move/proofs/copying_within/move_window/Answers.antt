@@ -9,14 +9,14 @@ use Rattle.bitvec_move.proofs.copying_within.move_window.Goals as goal
 
 pub returns-then-to-le-WORD_BITS-clause-writes : goal.returns-then-to-le-WORD_BITS-clause-writes
 returns-then-to-le-WORD_BITS-clause-writes g c =
-    let long = length-list g.C.Elem.BitStore.BITS g.O.BitOrder.at _ _ c.requires.beside in
-    Writes-is _ _ _ _ _ _ _ (rw c.load_parts-word.ensures.reads.numbers at c.store_parts.ensures.writes)
-    (take-word 64 _ _ _ c.load_parts-word.ensures.value (c.requires.lengths ∙ sym long))
+    let long = length-list g.O.BitOrder.at c.requires.beside in
+    Writes-is (rw c.load_parts-word.ensures.reads.numbers at c.store_parts.ensures.writes)
+    (take-word 64 _ c.load_parts-word.ensures.value (c.requires.lengths ∙ sym long))
 
 pub returns-then-to-le-WORD_BITS-clause-cost : goal.returns-then-to-le-WORD_BITS-clause-cost
 returns-then-to-le-WORD_BITS-clause-cost g c =
     let some = width_some _ g.met.C.Elem.BitStore.width_law in
-    let loads = touched-read g.C.Elem.BitStore.BITS c.args.from.start c.args.from.len c.args.to.len some c.requires.lengths in
+    let loads = touched-read g.C.Elem.BitStore.BITS c.args.from.start some c.requires.lengths in
     let edges = edges_loaded g.C.Elem.BitStore.BITS true c.args.to.len in
     let stores = touched-stored g.C.Elem.BitStore.BITS c.args.to.start c.args.to.len c.args.to.len some refl in
     let reads = c.load_parts-word.ensures.reads in
@@ -26,7 +26,7 @@ returns-then-to-le-WORD_BITS-clause-cost g c =
 pub returns-then-to-from-clause-cost : goal.returns-then-to-from-clause-cost
 returns-then-to-from-clause-cost g c =
     let some = width_some _ g.met.C.Elem.BitStore.width_law in
-    let loads = late-read g.C.Elem.BitStore.BITS c.args.from.start c.args.from.len c.args.to.len some c.requires.lengths (omega arith) in
+    let loads = late-read g.C.Elem.BitStore.BITS c.args.from.start some c.requires.lengths (omega arith) in
     let stores = late-stored g.C.Elem.BitStore.BITS c.args.to.start c.args.to.len some in
     let cost = c.move_to.ensures.cost in
     record { borrow = cost.borrow; loads = omega arith; stores = omega arith }
@@ -34,7 +34,7 @@ returns-then-to-from-clause-cost g c =
 pub returns-else-to-from-clause-cost : goal.returns-else-to-from-clause-cost
 returns-else-to-from-clause-cost g c =
     let some = width_some _ g.met.C.Elem.BitStore.width_law in
-    let loads = late-read g.C.Elem.BitStore.BITS c.args.from.start c.args.from.len c.args.to.len some c.requires.lengths (omega arith) in
+    let loads = late-read g.C.Elem.BitStore.BITS c.args.from.start some c.requires.lengths (omega arith) in
     let stores = late-stored g.C.Elem.BitStore.BITS c.args.to.start c.args.to.len some in
     let cost = c.move_to-else-to-from.ensures.cost in
     record { borrow = cost.borrow; loads = omega arith; stores = omega arith }

@@ -19,9 +19,9 @@ returns-then-goes_by_words-clause-cost g c =
 pub overflow_add-source : goal.overflow_add-source
 overflow_add-source g c =
     let some : 0 < c.args.moved.skip = omega arith in
-    record { fits = rw c.read_place.ensures (from-word _ _ _ _ _ _ g.met.C.Elem.BitStore.width_law c.requires.span.beside some (waiting-below _ 0 c.args.moved.count (omega arith))) }
+    record { fits = rw c.read_place.ensures (from-word _ _ _ _ g.met.C.Elem.BitStore.width_law c.requires.span.beside some (waiting-below _ 0 c.args.moved.count (omega arith))) }
 
 pub load-waiting-requires : goal.load-waiting-requires
 load-waiting-requires g c =
     let some : 0 < c.args.moved.skip = omega arith in
-    rw c.read_place.ensures (from-inside _ _ _ _ _ _ _ c.requires.span.beside some (waiting-below _ 0 c.args.moved.count (omega arith)) refl)
+    rw c.read_place.ensures (from-inside _ _ _ _ _ c.requires.span.beside some (waiting-below _ 0 c.args.moved.count (omega arith)) refl)

@@ -21,8 +21,8 @@ use Rattle.bitvec_move.proofs.WithinLaws.{Copies-parted, late-order, touched-spl
 use Rattle.bitvec_move.proofs.moving.move_to.Goals as goal
 
 -- ---- the places of the bits before the first edge, t of them, and of those behind
-after-has : (b : ℕ) (xs : List ℕ) (window : Window) (n : ℕ) → HasWindow b xs window → n ≤ window.len → HasWindow b xs (window_after n window)
-after-has b xs window n has fits = HasWindow-part b xs window (window_after n window) has (omega arith) (omega arith)
+after-has : {b : ℕ} {xs : List ℕ} {window : Window} (n : ℕ) → HasWindow b xs window → n ≤ window.len → HasWindow b xs (window_after n window)
+after-has {b} {xs} {window} n has fits = HasWindow-part (window_after n window) has (omega arith) (omega arith)
 
 rest-short : (b w n : ℕ) → 0 < b → w ≡ b → n - n / w * w ≤ b
 rest-short b w n some is = let all = div-add-mod' n b in let below = mod_below n b some in rw is (omega arith)
@@ -49,21 +49,21 @@ toward-behind : (later : Bool) (b s r t : ℕ) → 0 < b → IsToward later s r 
 toward-behind false b s r t some order = div-order b (s + t) (r + t) some (omega arith)
 toward-behind true b s r t some order = div-order b (r + t) (s + t) some (omega arith)
 
-until-has : (b : ℕ) (xs : List ℕ) (window : Window) (n : ℕ) → HasWindow b xs window → HasWindow b xs (window_until n window)
-until-has b xs window n has = HasWindow-part b xs window (window_until n window) has (le_refl window.start) (omega arith)
+until-has : {b : ℕ} {xs : List ℕ} {window : Window} (n : ℕ) → HasWindow b xs window → HasWindow b xs (window_until n window)
+until-has {b} {xs} {window} n has = HasWindow-part (window_until n window) has (le_refl window.start) (omega arith)
 
-span-after : (b : ℕ) (xs ys : List ℕ) (left right : Window) (n : ℕ) → HasSpan b xs ys left right → n ≤ left.len → HasSpan b xs ys (window_after n left) (window_after n right)
-span-after b xs ys left right n span fits =
+span-after : {b : ℕ} {xs ys : List ℕ} {left right : Window} (n : ℕ) → HasSpan b xs ys left right → n ≤ left.len → HasSpan b xs ys (window_after n left) (window_after n right)
+span-after {b} {xs} {ys} {left} {right} n span fits =
     let lengths = span.lengths in
-    record { window = after-has b xs left n span.window fits; beside = after-has b ys right n span.beside (omega arith); lengths = ap (λ (m : ℕ). m - n) lengths }
+    record { window = after-has n span.window fits; beside = after-has n span.beside (omega arith); lengths = ap (λ (m : ℕ). m - n) lengths }
 
 -- the whole elements of two windows, also where the left one ends in its first element
-span-whole : (b w : ℕ) (xs ys : List ℕ) (left right : Window) → IsWidth b → w ≡ b → HasSpan b xs ys left right → HasSpan b xs ys (elements_window b (left.start / w) (left.len / w)) (elements_window_from b (right.start / w) (right.start % w) (left.len / w))
-span-whole b w xs ys left right width is span =
+span-whole : {b w : ℕ} {xs ys : List ℕ} {left right : Window} → IsWidth b → w ≡ b → HasSpan b xs ys left right → HasSpan b xs ys (elements_window b (left.start / w) (left.len / w)) (elements_window_from b (right.start / w) (right.start % w) (left.len / w))
+span-whole {b} {w} {xs} {ys} {left} {right} width is span =
     let place = div-add-mod' left.start b in let parts = div-add-mod' left.len b in
     record {
       window = rw is (record { fits = span.window.fits; within = record { start = omega arith; len = omega arith } });
-      beside = whole-window_from b w ys right left.len width is span.beside (omega arith);
+      beside = whole-window_from left.len width is span.beside (omega arith);
       lengths = refl;
     }
 
@@ -80,12 +80,12 @@ at-most k n t fits = omega arith
 loads-fit : (m n k late rest all most : ℕ) → m + rest ≤ all + 1 → k + n ≤ rest → late ≤ most → m + n + (k + 1 + late) + 2 ≤ all + 4 + most
 loads-fit m n k late rest all most read elements more = omega arith
 
-stores-fit : (k late h j rest all most : ℕ) → h ≡ 1 → k + j ≤ rest → late ≤ most → all ≡ 1 + rest → k + late + h + j ≤ all + most
-stores-fit k late h j rest all most one elements more parts = omega arith
+stores-fit : (k late : ℕ) {h : ℕ} (j rest : ℕ) {all : ℕ} (most : ℕ) → h ≡ 1 → k + j ≤ rest → late ≤ most → all ≡ 1 + rest → k + late + h + j ≤ all + most
+stores-fit k late j rest most one elements more parts = omega arith
 
 -- ---- what its calls ask
 pub load_short-front-requires-clause-window : goal.load_short-front-requires-clause-window
-load_short-front-requires-clause-window g c = rw c.until.ensures (until-has _ _ _ _ c.requires.span.beside)
+load_short-front-requires-clause-window g c = rw c.until.ensures (until-has _ c.requires.span.beside)
 
 pub load_short-front-requires-clause-bound : goal.load_short-front-requires-clause-bound
 load_short-front-requires-clause-bound g c =
@@ -94,7 +94,7 @@ load_short-front-requires-clause-bound g c =
 pub move_elements-requires-clause-span : goal.move_elements-requires-clause-span
 move_elements-requires-clause-span g c =
     rw (c.load_short-back.ensures.reads.numbers, c.load_short-front.ensures.reads.numbers, c.of-moved.ensures, c.after-rest.ensures, c.after-behind.ensures)
-    (span-whole _ _ _ _ _ _ g.met.C.Elem.BitStore.width_law c.width-bits.ensures.is (span-after _ _ _ c.args.to c.args.from _ c.requires.span c.head_of-head.ensures.fits))
+    (span-whole g.met.C.Elem.BitStore.width_law c.width-bits.ensures.is (span-after _ c.requires.span c.head_of-head.ensures.fits))
 
 pub move_elements-requires-clause-bound : goal.move_elements-requires-clause-bound
 move_elements-requires-clause-bound g c = rw (c.of-moved.ensures, c.width-bits.ensures.is) (mod_below c.after-behind.result.start _ (width_some _ g.met.C.Elem.BitStore.width_law))
@@ -102,7 +102,7 @@ move_elements-requires-clause-bound g c = rw (c.of-moved.ensures, c.width-bits.e
 pub store_short-requires-clause-window : goal.store_short-requires-clause-window
 store_short-requires-clause-window g c =
     let kept = c.move_elements.ensures.writes.elements ∙ ap length (c.load_short-back.ensures.reads.numbers ∙ c.load_short-front.ensures.reads.numbers) in
-    rw c.until-2.ensures (until-has _ _ _ _ (HasWindow-kept _ _ _ _ c.requires.span.window kept))
+    rw c.until-2.ensures (until-has _ (HasWindow-kept _ c.requires.span.window kept))
 
 pub store_short-requires-clause-bound : goal.store_short-requires-clause-bound
 store_short-requires-clause-bound g c = rw (c.until-2.ensures, c.after-rest.ensures) (head-short _ _ _ _ _ c.head_of-head.ensures.long)
@@ -112,21 +112,21 @@ after-requires-2-clause-bound g c = rw (c.of-moved.ensures, c.after-rest.ensures
 
 pub after-requires-2-clause-end : goal.after-requires-2-clause-end
 after-requires-2-clause-end g c =
-    rw c.after-rest.ensures (window-end _ _ _ (after-has _ _ c.args.to _ c.requires.span.window c.head_of-head.ensures.fits))
+    rw c.after-rest.ensures (window-end (after-has _ c.requires.span.window c.head_of-head.ensures.fits))
 
 pub overflow_mul-passed : goal.overflow_mul-passed
-overflow_mul-passed g c = record { fits = rw (c.of-moved.ensures, c.after-rest.ensures) (let end = window-end _ _ c.args.to c.requires.span.window in let most = div-mul-le_self (c.args.to.len - c.head_of-head.result.1) c.width-bits.result in omega arith) }
+overflow_mul-passed g c = record { fits = rw (c.of-moved.ensures, c.after-rest.ensures) (let end = window-end c.requires.span.window in let most = div-mul-le_self (c.args.to.len - c.head_of-head.result.1) c.width-bits.result in omega arith) }
 
 pub after-requires : goal.after-requires
 after-requires g c =
     let fits : c.head_of-head.result.1 ≤ c.args.from.len = rw c.requires.span.lengths at c.head_of-head.ensures.fits in
     let bound = div-mul-le_self (c.args.from.len - c.head_of-head.result.1) c.width-bits.result in
-    rw (c.of-moved.ensures, c.after-rest.ensures, c.after-behind.ensures, c.requires.span.lengths) (record { bound = bound; end = window-end _ _ _ (after-has _ _ _ _ c.requires.span.beside fits) })
+    rw (c.of-moved.ensures, c.after-rest.ensures, c.after-behind.ensures, c.requires.span.lengths) (record { bound = bound; end = window-end (after-has _ c.requires.span.beside fits) })
 
 pub load_short-back-requires : goal.load_short-back-requires
 load_short-back-requires g c =
     let fits : c.head_of-head.result.1 ≤ c.args.from.len = rw c.requires.span.lengths at c.head_of-head.ensures.fits in
-    let window = after-has _ _ _ _ (after-has _ _ _ _ c.requires.span.beside fits) (div-mul-le_self (c.args.from.len - c.head_of-head.result.1) c.width-bits.result) in
+    let window = after-has _ (after-has _ c.requires.span.beside fits) (div-mul-le_self (c.args.from.len - c.head_of-head.result.1) c.width-bits.result) in
     rw (c.load_short-front.ensures.reads.numbers, c.after.ensures, c.of-moved.ensures, c.after-rest.ensures, c.after-behind.ensures, c.requires.span.lengths)
     (record { window = window; bound = rest-short _ _ _ (width_some _ g.met.C.Elem.BitStore.width_law) c.width-bits.ensures.is })
 
@@ -139,7 +139,7 @@ store_short-requires-2 g c =
     let some = width_some _ g.met.C.Elem.BitStore.width_law in
     let kept = c.store_short.ensures.writes.elements ∙ c.move_elements.ensures.writes.elements ∙ ap length (c.load_short-back.ensures.reads.numbers ∙ c.load_short-front.ensures.reads.numbers) in
     rw (c.after-2.ensures, c.of-moved.ensures, c.after-rest.ensures)
-    (record { window = HasWindow-kept _ _ _ _ (after-has _ _ _ _ (after-has _ _ _ _ c.requires.span.window c.head_of-head.ensures.fits) (div-mul-le_self _ _)) kept; bound = inside-short _ _ _ (back-inside _ _ _ _ _ some c.width-bits.ensures.is c.head_of-head.ensures.long) })
+    (record { window = HasWindow-kept _ (after-has _ (after-has _ c.requires.span.window c.head_of-head.ensures.fits) (div-mul-le_self _ _)) kept; bound = inside-short _ _ _ (back-inside _ _ _ _ _ some c.width-bits.ensures.is c.head_of-head.ensures.long) })
 
 pub returns-clause-writes : goal.returns-clause-writes
 returns-clause-writes g c =
@@ -150,7 +150,7 @@ returns-clause-writes g c =
     let whole = rw (c.load_short-back.ensures.reads.numbers, c.load_short-front.ensures.reads.numbers, c.of-moved.ensures, c.after-behind.ensures, c.after-rest.ensures, width) at c.move_elements.ensures.writes in
     let head = rw (c.until-2.ensures, c.after-rest.ensures) at c.store_short.ensures.writes in
     let tail = rw (c.after-2.ensures, c.of-moved.ensures, c.after-rest.ensures, width) at c.store_short-2.ensures.writes in
-    Copies-parted _ _ _ _ _ _ c.args.to c.args.from c.head_of-head.result.1 _ _ some c.requires.span c.head_of-head.ensures.long whole head (rw lengths front) tail (rw lengths (rw lengths at back))
+    Copies-parted some c.requires.span c.head_of-head.ensures.long whole head (rw lengths front) tail (rw lengths (rw lengths at back))
 
 pub returns-clause-cost : goal.returns-clause-cost
 returns-clause-cost g c =
@@ -172,4 +172,4 @@ returns-clause-cost g c =
     let head = rw (c.until-2.ensures, c.after-rest.ensures, until-all n t c.head_of-head.ensures.fits) at c.store_short.ensures.cost in
     let tail = rw (c.after-2.ensures, c.of-moved.ensures, c.after-rest.ensures, width) at c.store_short-2.ensures.cost in
     let last = touched-few b _ _ some (back-inside b b c.args.to.start t n some refl c.head_of-head.ensures.long) in
-    Costs-edges g.C.CellsRead _ _ _ _ _ _ _ _ _ _ _ _ _ _ front back whole head (omega arith) tail last (loads-fit _ _ _ _ _ _ _ read elements late) (stores-fit _ _ _ _ _ _ _ one stored late written)
+    Costs-edges g.C.CellsRead _ _ _ _ _ _ _ _ _ _ _ _ _ _ front back whole head (omega arith) tail last (loads-fit _ _ _ _ _ _ _ read elements late) (stores-fit _ _ _ _ _ one stored late written)

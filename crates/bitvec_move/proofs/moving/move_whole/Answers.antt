@@ -10,7 +10,7 @@ turn-more step n more = omega arith
 
 pub loop-step-init : goal.loop-step-init
 loop-step-init g c = record {
-  writes = CopiesSome-none (not (nat_eq g.row.LATER 0)) _ _ _ _ _ _ _ c.requires.span.window;
+  writes = CopiesSome-none (not (nat_eq g.row.LATER 0)) _ _ _ _ _ c.requires.span.window;
   cost = Costs-none g.C.CellsRead _;
 }
 

@@ -9,20 +9,20 @@ use Rattle.bitvec_move.proofs.WordMoveLemmas.{waiting-below}
 use Rattle.bitvec_move.proofs.moving.shift_carried.Goals as goal
 
 pub overflow_add-first : goal.overflow_add-first
-overflow_add-first g c = record { fits = rw c.next_place-place.ensures (inside-word _ _ _ _ _ g.met.C.Elem.BitStore.width_law c.requires.skipped.span.window (nth-below _ _ _ c.loop-passed-test.true)) }
+overflow_add-first g c = record { fits = rw c.next_place-place.ensures (inside-word _ _ _ g.met.C.Elem.BitStore.width_law c.requires.skipped.span.window (nth-below _ _ _ c.loop-passed-test.true)) }
 
 pub store-requires : goal.store-requires
 store-requires g c = rw (c.next_place-place.ensures, c.load.ensures.numbers) (inside _ _ _ _ _ _ g.met.C.Elem.BitStore.width_law c.requires.skipped.span.window (nth-below _ _ _ c.loop-passed-test.true) c.loop-passed.invariant.writes.elements)
 
 pub overflow_add-source : goal.overflow_add-source
-overflow_add-source g c = record { fits = rw c.read_place-read.ensures (from-word _ _ _ _ _ _ g.met.C.Elem.BitStore.width_law c.requires.skipped.span.beside c.requires.skipped.inside (waiting-below _ (c.loop-passed.passed + 1) c.args.count (omega arith))) }
+overflow_add-source g c = record { fits = rw c.read_place-read.ensures (from-word _ _ _ _ g.met.C.Elem.BitStore.width_law c.requires.skipped.span.beside c.requires.skipped.inside (waiting-below _ (c.loop-passed.passed + 1) c.args.count (omega arith))) }
 
 pub load-requires : goal.load-requires
-load-requires g c = rw c.read_place-read.ensures (from-inside _ _ _ _ _ _ _ c.requires.skipped.span.beside c.requires.skipped.inside (waiting-below _ (c.loop-passed.passed + 1) c.args.count (omega arith)) c.loop-passed.invariant.writes.elements)
+load-requires g c = rw c.read_place-read.ensures (from-inside _ _ _ _ _ c.requires.skipped.span.beside c.requires.skipped.inside (waiting-below _ (c.loop-passed.passed + 1) c.args.count (omega arith)) c.loop-passed.invariant.writes.elements)
 
 pub loop-passed-init : goal.loop-passed-init
 loop-passed-init g c = record {
-  writes = CopiesSome-none (not (nat_eq g.row.LATER 0)) _ _ _ _ _ _ _ c.requires.skipped.span.window;
+  writes = CopiesSome-none (not (nat_eq g.row.LATER 0)) _ _ _ _ _ c.requires.skipped.span.window;
   carried = rw c.of-last.ensures (ap (element_bits g.C.Elem.BitStore.BITS g.O.BitOrder.at) c.requires.waiting);
   cost = search rules;
 }
@@ -35,13 +35,13 @@ loop-passed-preserved g c =
     let inv = c.loop-passed.invariant in let skipped = c.requires.skipped in let more = c.loop-passed-test.true in
     let some = width_some _ g.met.C.Elem.BitStore.width_law in
     let passed = c.loop-passed.passed in
-    let kept = CopiesSome-kept later _ _ _ _ _ _ _ _ _ (waiting_place later (passed + 1) c.args.count) c.requires.towards skipped.span.window more (nth-waiting later passed c.args.count) (omega arith) inv.writes in
+    let kept = CopiesSome-kept later _ _ _ _ _ _ _ (waiting_place later (passed + 1) c.args.count) c.requires.towards skipped.span.window more (nth-waiting later passed c.args.count) (omega arith) inv.writes in
     let read : element_bits g.C.Elem.BitStore.BITS g.O.BitOrder.at (g.K.Carried.value c.of-next.result) ≡ bits (c.args.source + waiting_place later (passed + 1) c.args.count) =
     rw (c.of-next.ensures, c.load.ensures.value, c.read_place-read.ensures) kept in
     record {
       writes = rw (c.store.ensures.numbers, c.load.ensures.numbers, c.next_place-place.ensures)
-          (CopiesSome-more later _ _ _ _ _ _ _ _ _ _ some skipped.span more
-          (c.joined.ensures ∙ list-joined_next later _ _ _ _ _ _ _ g.K.Carried.value _ _ _ skipped.inside skipped.bound skipped.span.beside more inv.carried read c.in_order-low.ensures)
+          (CopiesSome-more later _ _ _ _ _ _ _ _ some skipped.span more
+          (c.joined.ensures ∙ list-joined_next later _ _ _ _ _ g.K.Carried.value _ _ skipped.inside skipped.bound skipped.span.beside more inv.carried read c.in_order-low.ensures)
           inv.writes);
       carried = read;
       cost = search rules;

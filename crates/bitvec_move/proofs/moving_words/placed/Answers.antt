@@ -7,4 +7,4 @@ returns g c =
     let b = g.T.BitStore.BITS in
     let at = g.O.BitOrder.at in
     let moved = rw c.BITS.ensures at c.moved.ensures in
-    rw moved (placed-range _ b c.args.to (length-element_bits b at (g.T.BitStore.value c.args.element)) c.requires)
+    rw moved (placed-range c.args.to (length-element_bits b at (g.T.BitStore.value c.args.element)) c.requires)

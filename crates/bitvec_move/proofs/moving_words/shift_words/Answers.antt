@@ -36,7 +36,7 @@ loop-step-init g c =
     let bytes = c.requires.bytes in let reads = c.load_skipped-held.ensures.reads in
     let held = rw (bytes, c.load.ensures.value, reads.numbers, c.carried_place-to.ensures.to, c.read_place-from.ensures) at c.placed-last.ensures in
     record {
-      writes = rw (c.load.ensures.numbers, reads.numbers) (CopiesSome-none later _ _ _ _ _ _ _ c.requires.skipped.span.window);
+      writes = rw (c.load.ensures.numbers, reads.numbers) (CopiesSome-none later _ _ _ _ _ c.requires.skipped.span.window);
       carried = rw bytes held;
       cost = Costs-held g.C.CellsRead _ _ _ reads c.load.ensures.borrow c.load.ensures.loads c.load.ensures.stores;
     }
@@ -56,13 +56,13 @@ loop-step-preserved g c =
     let places = c.carried_place-to.ensures in let place = c.word_place-place.ensures.place in
     let fits = turn-fits _ count c.loop-step-test.true in
     let done = turn-next c.loop-step.step in
-    let kept = word-left later at old now first source skip count k c.requires.towards skipped fits before in
+    let kept = word-left later at now k c.requires.towards skipped fits before in
     let word = rw (bytes, places.ahead, place, next-sum source, kept) at c.load_elements-next.ensures.value in
-    let joined = rw places.to at c.joined-word.ensures ∙ word-joined later at old first source skip count k c.loop-step.last c.load_elements-next.result _ skipped fits carried word c.in_order-low.ensures in
+    let joined = rw places.to at c.joined-word.ensures ∙ word-joined later at k c.loop-step.last c.load_elements-next.result skipped fits carried word c.in_order-low.ensures in
     let stored = rw (bytes, place, c.load_elements-next.ensures.reads.numbers) at c.store_elements.ensures.writes in
     record {
-      writes = rw bytes (rw done at (CopiesSome-part later 8 at old now _ first source skip count k (k + 8) 8 _ skipped.span (added-most k) (le_refl (k + 8)) (added-least k) fits before stored joined));
-      carried = rw (bytes, word, ← done) (word-carried later at old first source skip count k skipped fits);
+      writes = rw bytes (rw done at (CopiesSome-part later first source skip count k (k + 8) 8 skipped.span (added-most k) (le_refl (k + 8)) (added-least k) fits before stored joined));
+      carried = rw (bytes, word, ← done) (word-carried later at k skipped fits);
       cost = Costs-word g.C.CellsRead _ _ _ _ c.loop-step.step inv.cost (rw bytes at c.load_elements-next.ensures.reads) (rw bytes at c.store_elements.ensures.cost);
     }
 
@@ -82,4 +82,4 @@ returns-clause-writes g c =
     let held = rw (bytes, edge) at c.load_skipped-held.ensures.value in
     let stored = rw (bytes, edge) at c.store_elements-2.ensures.writes in
     rw bytes (CopiesSome-all later at old _ moved.first moved.source moved.skip moved.count
-    (CopiesSome-part later 8 at old now _ moved.first moved.source moved.skip moved.count (c.loop-step.step * 8) moved.count 8 _ skipped.span (eighths _ _ all) (eighths-end _ _ all) c.requires.word (le_refl moved.count) before stored held))
+    (CopiesSome-part later moved.first moved.source moved.skip moved.count (c.loop-step.step * 8) moved.count 8 skipped.span (eighths _ _ all) (eighths-end _ _ all) c.requires.word (le_refl moved.count) before stored held))

@@ -7,8 +7,8 @@ pub returns-then-left_window-eq0-clause-swaps : goal.returns-then-left_window-eq
 returns-then-left_window-eq0-clause-swaps g c =
     let none = c.if-left_window-eq0.true in
     record {
-      writes = Writes-none _ _ _ _ _ _ c.requires.window none (sym c.requires.lengths ∙ none);
-      right_writes = Writes-none _ _ _ _ _ _ c.requires.beside (sym c.requires.lengths ∙ none) none;
+      writes = Writes-none _ _ _ c.requires.window none (sym c.requires.lengths ∙ none);
+      right_writes = Writes-none _ _ _ c.requires.beside (sym c.requires.lengths ∙ none) none;
     }
 
 pub swap_equal-requires-clause-phases : goal.swap_equal-requires-clause-phases

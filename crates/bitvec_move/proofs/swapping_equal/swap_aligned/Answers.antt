@@ -9,14 +9,14 @@ use Rattle.bitvec_move.proofs.swapping_equal.swap_aligned.Goals as goal
 
 pub swap_whole-requires : goal.swap_whole-requires
 swap_whole-requires g c =
-    rw c.whole_elements-first.ensures (whole-span _ _ _ _ c.args.left_window c.args.right_window g.met.C.Elem.BitStore.width_law c.width-bits.ensures.is c.requires.span c.requires.edge c.requires.right_edge)
+    rw c.whole_elements-first.ensures (whole-span g.met.C.Elem.BitStore.width_law c.width-bits.ensures.is c.requires.span c.requires.edge c.requires.right_edge)
 
 pub swap_part-requires-clause-part : goal.swap_part-requires-clause-part
-swap_part-requires-clause-part g c = rw c.tail_part-tail.ensures (tail-part _ _ _ _ c.args.left_window _ g.met.C.Elem.BitStore.width_law c.width-bits.ensures.is c.requires.span.window (omega arith) (let left = rw c.tail_part-tail.ensures at c.if-tail-eq0.false in omega arith) c.swap_whole.ensures.swaps.writes.elements)
+swap_part-requires-clause-part g c = rw c.tail_part-tail.ensures (tail-part _ _ g.met.C.Elem.BitStore.width_law c.width-bits.ensures.is c.requires.span.window (omega arith) (let left = rw c.tail_part-tail.ensures at c.if-tail-eq0.false in omega arith) c.swap_whole.ensures.swaps.writes.elements)
 
 pub swap_part-requires-clause-source : goal.swap_part-requires-clause-source
 swap_part-requires-clause-source g c =
-    let inside = tail-inside _ _ _ c.args.right_window c.args.left_window.len g.met.C.Elem.BitStore.width_law c.width-bits.ensures.is c.requires.span.beside (omega arith) (let left = rw c.tail_part-tail.ensures at c.if-tail-eq0.false in omega arith) in
+    let inside = tail-inside c.args.left_window.len g.met.C.Elem.BitStore.width_law c.width-bits.ensures.is c.requires.span.beside (omega arith) (let left = rw c.tail_part-tail.ensures at c.if-tail-eq0.false in omega arith) in
     rw c.whole_elements-first.ensures (omega arith)
 
 pub returns-then-tail-eq0-clause-cost : goal.returns-then-tail-eq0-clause-cost
@@ -38,7 +38,7 @@ returns-clause-swaps g c =
     let b = g.C.Elem.BitStore.BITS in
     let whole = rw (c.whole_elements-first.ensures, c.width-bits.ensures.is) at c.swap_whole.ensures.swaps in
     let part = rw (c.tail_part-tail.ensures, c.whole_elements-first.ensures, c.width-bits.ensures.is) at c.swap_part.ensures.swaps in
-    SwapsWindows-joined _ _ _ _ _ _ _ _ _ _ _ _ _ _ c.requires.span.window c.requires.span.beside
+    SwapsWindows-joined c.requires.span.window c.requires.span.beside
     (beside-tail b c.args.left_window c.args.left_window.len c.requires.edge refl)
     (beside-tail b c.args.right_window c.args.left_window.len c.requires.right_edge c.requires.span.lengths)
     whole part
@@ -64,4 +64,4 @@ returns-then-tail-eq0-clause-swaps g c =
     let place = div-add-mod' c.args.left_window.start b in
     let right_place = div-add-mod' c.args.right_window.start b in
     let parts = div-add-mod' c.args.left_window.len b in
-    SwapsWindows-same b _ _ _ _ _ _ _ c.args.left_window c.args.right_window (omega arith) (omega arith) (omega arith) (omega arith) (rw (c.whole_elements-first.ensures, c.width-bits.ensures.is) at c.swap_whole.ensures.swaps)
+    SwapsWindows-same b c.args.left_window c.args.right_window (omega arith) (omega arith) (omega arith) (omega arith) (rw (c.whole_elements-first.ensures, c.width-bits.ensures.is) at c.swap_whole.ensures.swaps)

@@ -12,18 +12,18 @@ swap_part-requires-clause-part g c = head-part _ _ _ c.args.left_window _ g.met.
 
 pub swap_part-requires-clause-source : goal.swap_part-requires-clause-source
 swap_part-requires-clause-source g c =
-    head-element _ _ _ c.args.right_window g.met.C.Elem.BitStore.width_law c.width-bits.ensures.is (omega arith) c.requires.span.beside
+    head-element g.met.C.Elem.BitStore.width_law c.width-bits.ensures.is (omega arith) c.requires.span.beside
 
 pub swap_aligned-requires-2-clause-edge : goal.swap_aligned-requires-2-clause-edge
 swap_aligned-requires-2-clause-edge g c =
-    behind-edge _ _ c.args.left_window _ g.met.C.Elem.BitStore.width_law c.after-rest.ensures c.head_of-passed.ensures.long c.if-passed-left_window.false
+    behind-edge _ c.args.left_window g.met.C.Elem.BitStore.width_law c.after-rest.ensures c.head_of-passed.ensures.long c.if-passed-left_window.false
 
 pub swap_aligned-requires-2-clause-right_edge : goal.swap_aligned-requires-2-clause-right_edge
 swap_aligned-requires-2-clause-right_edge g c =
     let b = g.C.Elem.BitStore.BITS in
     let same : c.head_of-passed.result.1 ≡ min c.args.right_window.len (b - c.args.right_window.start % b) = rw (c.requires.span.lengths, c.requires.phases) at c.head_of-passed.ensures.long in
     let left : c.head_of-passed.result.1 ≢ c.args.right_window.len = λ e. c.if-passed-left_window.false (omega arith) in
-    behind-edge b _ c.args.right_window _ g.met.C.Elem.BitStore.width_law c.after-behind.ensures same left
+    behind-edge b c.args.right_window g.met.C.Elem.BitStore.width_law c.after-behind.ensures same left
 
 pub returns-then-passed-left_window-clause-cost : goal.returns-then-passed-left_window-clause-cost
 returns-then-passed-left_window-clause-cost g c =
@@ -48,7 +48,7 @@ returns-clause-swaps g c =
     let some = width_some _ g.met.C.Elem.BitStore.width_law in
     let first = rw (c.head_of-passed.ensures.part, c.width-bits.ensures.is) at c.swap_part.ensures.swaps in
     let rest = rw (c.after-rest.ensures, c.after-behind.ensures) at c.swap_aligned-2.ensures.swaps in
-    SwapsWindows-joined _ _ _ _ _ _ _ _ _ _ _ _ _ _ c.requires.span.window c.requires.span.beside
+    SwapsWindows-joined c.requires.span.window c.requires.span.beside
     (beside-head b c.args.left_window c.args.left_window c.head_of-passed.result.1 some c.requires.some c.head_of-passed.ensures.long refl refl)
     (beside-head b c.args.left_window c.args.right_window c.head_of-passed.result.1 some c.requires.some c.head_of-passed.ensures.long c.requires.span.lengths c.requires.phases)
     first rest
@@ -74,4 +74,4 @@ returns-clause-right_cost g c =
 pub swap_aligned-requires-2-clause-span : goal.swap_aligned-requires-2-clause-span
 swap_aligned-requires-2-clause-span g c =
     let swaps = c.swap_part.ensures.swaps in
-    rw (c.after-rest.ensures, c.after-behind.ensures) (after-span _ _ _ _ _ c.args.left_window c.args.right_window _ c.requires.span swaps.writes.elements swaps.right_writes.elements (c.head_of-passed.ensures.fits))
+    rw (c.after-rest.ensures, c.after-behind.ensures) (after-span _ c.requires.span swaps.writes.elements swaps.right_writes.elements (c.head_of-passed.ensures.fits))

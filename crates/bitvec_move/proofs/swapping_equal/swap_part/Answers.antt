@@ -15,6 +15,6 @@ returns-clause-swaps g c =
     let merged = rw c.load-element.ensures.value at c.merged-new.ensures in
     let its_merged = rw c.load-other.ensures.value at c.merged-right_new.ensures in
     record {
-      writes = rw (c.store.ensures.numbers, c.load-element.ensures.numbers) (Writes-exchanged_part _ _ _ _ part its _ _ some has its_has refl refl c.load-other.ensures.value merged);
-      right_writes = rw (c.store-2.ensures.numbers, c.load-other.ensures.numbers) (Writes-exchanged_part _ _ _ _ its part _ _ some its_has has refl refl c.load-element.ensures.value its_merged);
+      writes = rw (c.store.ensures.numbers, c.load-element.ensures.numbers) (Writes-exchanged_part _ some has its_has refl refl c.load-other.ensures.value merged);
+      right_writes = rw (c.store-2.ensures.numbers, c.load-other.ensures.numbers) (Writes-exchanged_part _ some its_has has refl refl c.load-element.ensures.value its_merged);
     }

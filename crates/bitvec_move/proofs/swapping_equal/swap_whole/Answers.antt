@@ -7,8 +7,8 @@ use Rattle.bitvec_move.proofs.swapping_equal.swap_whole.Goals as goal
 pub loop-step-init : goal.loop-step-init
 loop-step-init g c = record {
   swaps = record {
-    writes = Writes-no_element _ _ _ _ _ _ _ c.requires.window (omega arith);
-    right_writes = Writes-no_element _ _ _ _ _ _ _ c.requires.beside (omega arith);
+    writes = Writes-no_element _ _ _ _ c.requires.window (omega arith);
+    right_writes = Writes-no_element _ _ _ _ c.requires.beside (omega arith);
   };
   cost = search rules;
   right_cost = search rules;
@@ -23,9 +23,9 @@ loop-step-preserved g c =
     record {
       swaps = record {
         writes = rw (c.store.ensures.numbers, c.load-element.ensures.numbers, c.load-other.ensures.value)
-            (Writes-exchanged_element _ _ _ _ _ _ _ _ _ _ _ some c.requires.window c.requires.beside more done.writes done.right_writes);
+            (Writes-exchanged_element _ _ _ _ some c.requires.window c.requires.beside more done.writes done.right_writes);
         right_writes = rw (c.store-in-loop-step.ensures.numbers, c.load-other.ensures.numbers, c.load-element.ensures.value)
-            (Writes-exchanged_element _ _ _ _ _ _ _ _ _ _ _ some c.requires.beside c.requires.window more done.right_writes done.writes);
+            (Writes-exchanged_element _ _ _ _ some c.requires.beside c.requires.window more done.right_writes done.writes);
       };
       cost = search rules;
       right_cost = search rules;

@@ -16,30 +16,30 @@ before-next e n next = omega arith
 
 pub overflow_add-first : goal.overflow_add-first
 overflow_add-first g c =
-    record { fits = inside-word _ _ _ _ _ g.met.C.Elem.BitStore.width_law c.requires.span.window c.loop-step-test.true }
+    record { fits = inside-word _ _ _ g.met.C.Elem.BitStore.width_law c.requires.span.window c.loop-step-test.true }
 
 pub overflow_add-first-in-loop-step : goal.overflow_add-first-in-loop-step
 overflow_add-first-in-loop-step g c =
-    record { fits = inside-word _ _ _ _ _ g.met.C.Elem.BitStore.width_law c.requires.span.window c.loop-step-test.true }
+    record { fits = inside-word _ _ _ g.met.C.Elem.BitStore.width_law c.requires.span.window c.loop-step-test.true }
 
 pub overflow_add-source : goal.overflow_add-source
 overflow_add-source g c =
-    record { fits = from-word _ _ _ _ _ _ g.met.C.Elem.BitStore.width_law c.requires.span.beside c.requires.inside c.loop-step.auto.step-end }
+    record { fits = from-word _ _ _ _ g.met.C.Elem.BitStore.width_law c.requires.span.beside c.requires.inside c.loop-step.auto.step-end }
 
 pub overflow_add-source-in-loop-step : goal.overflow_add-source-in-loop-step
 overflow_add-source-in-loop-step g c =
-    record { fits = next-word _ _ _ _ _ _ g.met.C.Elem.BitStore.width_law c.requires.span.beside c.requires.inside c.loop-step-test.true }
+    record { fits = next-word _ _ _ _ g.met.C.Elem.BitStore.width_law c.requires.span.beside c.requires.inside c.loop-step-test.true }
 
 pub overflow_add-source-in-loop-step-2 : goal.overflow_add-source-in-loop-step-2
 overflow_add-source-in-loop-step-2 g c =
-    record { fits = from-word _ _ _ _ _ _ g.met.C.Elem.BitStore.width_law c.requires.span.beside c.requires.inside c.loop-step.auto.step-end }
+    record { fits = from-word _ _ _ _ g.met.C.Elem.BitStore.width_law c.requires.span.beside c.requires.inside c.loop-step.auto.step-end }
 
 pub store-requires : goal.store-requires
 store-requires g c = rw c.load-element.ensures.numbers (inside _ _ _ _ _ _ g.met.C.Elem.BitStore.width_law c.requires.span.window c.loop-step-test.true c.loop-step.invariant.swaps.writes.elements)
 
 pub store-requires-in-loop-step : goal.store-requires-in-loop-step
 store-requires-in-loop-step g c =
-    let next = across-next _ _ _ _ _ _ _ _ _ _ _ c.requires.inside c.requires.span.beside c.loop-step-test.true c.loop-step.invariant.swaps.right_writes in
+    let next = across-next _ _ _ _ _ _ _ c.requires.inside c.requires.span.beside c.loop-step-test.true c.loop-step.invariant.swaps.right_writes in
     rw c.load-next.ensures.numbers (before-next _ _ next)
 
 pub returns : goal.returns
@@ -51,21 +51,21 @@ returns g c =
 pub loop-step-init : goal.loop-step-init
 loop-step-init g c = record {
   swaps = record {
-    writes = Writes-no_element _ _ _ _ _ _ _ c.requires.span.window (omega arith);
-    right_writes = across-none _ _ _ _ _ _ _ _ _ c.requires.span.beside;
+    writes = Writes-no_element _ _ _ _ c.requires.span.window (omega arith);
+    right_writes = across-none _ _ _ _ _ _ c.requires.span.beside;
   };
   cost = Costs-none g.C.CellsRead _;
   right_cost = Costs-none g.D.CellsRead _;
-  ends = ends-start _ _ _ _ (length-element_bits _ _ _) c.requires.bound (rw c.BITS.ensures at c.toward_end-before.ensures);
+  ends = ends-start (length-element_bits _ _ _) c.requires.bound (rw c.BITS.ensures at c.toward_end-before.ensures);
 }
 
 pub load-element-requires : goal.load-element-requires
 load-element-requires g c =
-    next_element _ _ _ _ _ _ (width_some _ g.met.C.Elem.BitStore.width_law) c.requires.span.window c.loop-step-test.true c.loop-step.invariant.swaps.writes.elements
+    next_element _ _ _ _ (width_some _ g.met.C.Elem.BitStore.width_law) c.requires.span.window c.loop-step-test.true c.loop-step.invariant.swaps.writes.elements
 
 pub load-next-requires : goal.load-next-requires
 load-next-requires g c =
-    across-next _ _ _ _ _ _ _ _ _ _ _ c.requires.inside c.requires.span.beside c.loop-step-test.true c.loop-step.invariant.swaps.right_writes
+    across-next _ _ _ _ _ _ _ c.requires.inside c.requires.span.beside c.loop-step-test.true c.loop-step.invariant.swaps.right_writes
 
 pub loop-step-preserved : goal.loop-step-preserved
 loop-step-preserved g c =
@@ -86,12 +86,12 @@ loop-step-preserved g c =
     record {
       swaps = record {
         writes = rw (c.store.ensures.numbers, c.load-element.ensures.numbers)
-            (across-element _ _ _ _ _ _ _ _ _ _ _ _ _ _ _ some c.requires.inside below c.requires.span.window c.requires.span.beside more joined inv.swaps.writes inv.swaps.right_writes);
+            (across-element _ _ _ _ _ _ _ _ _ some c.requires.inside below c.requires.span.window c.requires.span.beside more joined inv.swaps.writes inv.swaps.right_writes);
         right_writes = rw (c.store-in-loop-step.ensures.numbers, c.load-next.ensures.numbers)
-            (across-bits _ _ _ _ _ _ _ _ _ _ _ _ _ _ _ some c.requires.inside below c.requires.span.window c.requires.span.beside more
-            (met ∙ ends-joined b c.args.skip _ _ _ element (length-element_bits _ _ _) long below inv.ends) waits inv.swaps.writes inv.swaps.right_writes);
+            (across-bits _ _ _ _ _ _ _ _ _ _ some c.requires.inside below c.requires.span.window c.requires.span.beside more
+            (met ∙ ends-joined element (length-element_bits _ _ _) long below inv.ends) waits inv.swaps.writes inv.swaps.right_writes);
       };
       cost = Costs-next g.C.CellsRead _ _ _ _ _ _ inv.cost c.load-element.ensures.borrow c.load-element.ensures.loads c.load-element.ensures.stores c.store.ensures.borrow c.store.ensures.loads c.store.ensures.stores;
       right_cost = Costs-next g.D.CellsRead _ _ _ _ _ _ inv.right_cost c.load-next.ensures.borrow c.load-next.ensures.loads c.load-next.ensures.stores c.store-in-loop-step.ensures.borrow c.store-in-loop-step.ensures.loads c.store-in-loop-step.ensures.stores;
-      ends = rw (c.load-element.ensures.value, c.load-next.ensures.value) (ends-next b c.args.skip _ element next long next_long below waits);
+      ends = rw (c.load-element.ensures.value, c.load-next.ensures.value) (ends-next c.args.skip element next long next_long below waits);
     }

@@ -22,25 +22,25 @@ swap_across-last-requires g c =
     let some = width_some _ g.met.C.Elem.BitStore.width_law in
     let skipped = c.requires.skipped in
     record {
-      span = rw c.of-stretch.ensures (whole-span_from _ _ _ _ c.args.left_window c.args.right_window g.met.C.Elem.BitStore.width_law c.width-bits.ensures.is skipped.span skipped.edge);
+      span = rw c.of-stretch.ensures (whole-span_from g.met.C.Elem.BitStore.width_law c.width-bits.ensures.is skipped.span skipped.edge);
       inside = rw (c.of-stretch.ensures, c.width-bits.ensures.is) skipped.inside;
       bound = rw (c.of-stretch.ensures, c.width-bits.ensures.is) (mod_below c.args.right_window.start b some);
     }
 
 pub store-requires : goal.store-requires
 store-requires g c =
-    let has = whole-window_from _ _ _ c.args.right_window c.args.left_window.len g.met.C.Elem.BitStore.width_law c.width-bits.ensures.is c.requires.skipped.span.beside (same-most _ _ c.requires.skipped.span.lengths) in
-    let here = from-inside _ _ _ _ _ _ (c.args.left_window.len / c.width-bits.result) has (rw c.width-bits.ensures.is c.requires.skipped.inside) (le_refl _) refl in
+    let has = whole-window_from c.args.left_window.len g.met.C.Elem.BitStore.width_law c.width-bits.ensures.is c.requires.skipped.span.beside (same-most _ _ c.requires.skipped.span.lengths) in
+    let here = from-inside _ _ _ _ (c.args.left_window.len / c.width-bits.result) has (rw c.width-bits.ensures.is c.requires.skipped.inside) (le_refl _) refl in
     rw c.of-stretch.ensures (omega (arith, length-set {A = ℕ}))
 
 pub swap_waiting-end-requires : goal.swap_waiting-end-requires
 swap_waiting-end-requires g c =
     let left = rw c.tail_part-tail.ensures at c.if-tail-eq0.false in
     let swaps = c.swap_across-last.ensures.swaps in
-    let met = tail-span _ _ _ _ _ c.args.left_window c.args.right_window g.met.C.Elem.BitStore.width_law c.width-bits.ensures.is c.requires.skipped.span (omega arith) swaps.writes.elements in
+    let met = tail-span g.met.C.Elem.BitStore.width_law c.width-bits.ensures.is c.requires.skipped.span (omega arith) swaps.writes.elements in
     rw (c.tail_part-tail.ensures, c.after-behind.ensures, c.of-stretch.ensures) (record {
       element = met.element;
-      beside = HasWindow-kept _ _ _ _ met.beside (omega (arith, length-set {A = ℕ}));
+      beside = HasWindow-kept _ met.beside (omega (arith, length-set {A = ℕ}));
       lengths = met.lengths;
       some = met.some;
     })
@@ -72,7 +72,7 @@ returns-clause-swaps g c =
     let whole = rw (c.of-stretch.ensures, c.width-bits.ensures.is) at c.swap_across-last.ensures.swaps in
     let part = rw (c.tail_part-tail.ensures, c.after-behind.ensures, c.of-stretch.ensures, c.width-bits.ensures.is, place) at c.swap_waiting-end.ensures.swaps in
     rw (c.store-2.ensures.numbers, c.after-behind.ensures, c.of-stretch.ensures, c.width-bits.ensures.is)
-    (SwapsWindows-joined _ _ _ _ _ _ _ _ _ _ _ _ _ _ span.window (HasWindow-set _ _ _ _ _ span.beside)
+    (SwapsWindows-joined span.window (HasWindow-set _ _ span.beside)
     (beside-tail b c.args.left_window c.args.left_window.len c.requires.skipped.edge refl)
     (beside-after b c.args.right_window (c.args.left_window.len / b) fits)
     whole part)
@@ -105,20 +105,20 @@ returns-then-tail-eq0-clause-swaps g c =
     let right_place = div-add-mod' c.args.right_window.start b in
     let parts = div-add-mod' c.args.left_window.len b in
     rw (c.store.ensures.numbers, c.of-stretch.ensures, c.width-bits.ensures.is)
-    (SwapsWindows-same b _ _ _ _ _ _ _ c.args.left_window c.args.right_window (omega arith) (omega arith) (omega arith) (omega arith)
+    (SwapsWindows-same b c.args.left_window c.args.right_window (omega arith) (omega arith) (omega arith) (omega arith)
     (rw (c.of-stretch.ensures, c.width-bits.ensures.is) at c.swap_across-last.ensures.swaps))
 
 pub store-requires-2 : goal.store-requires-2
 store-requires-2 g c =
     let left = rw (c.tail_part-tail.ensures, c.width-bits.ensures.is) at c.if-tail-eq0.false in
     let parts = div-add-mod' c.args.left_window.len g.C.Elem.BitStore.BITS in
-    place-element _ _ _ _ c.args.right_window _ g.met.C.Elem.BitStore.width_law c.width-bits.ensures.is c.requires.skipped.span.beside
+    place-element _ _ g.met.C.Elem.BitStore.width_law c.width-bits.ensures.is c.requires.skipped.span.beside
     (rw (c.after-behind.ensures, c.of-stretch.ensures, c.width-bits.ensures.is) (omega arith)) (omega (arith, length-set {A = ℕ}))
 
 pub overflow_add-stretch : goal.overflow_add-stretch
 overflow_add-stretch g c =
-    let has = whole-window_from _ _ _ c.args.right_window c.args.left_window.len g.met.C.Elem.BitStore.width_law c.width-bits.ensures.is c.requires.skipped.span.beside (same-most _ _ c.requires.skipped.span.lengths) in
-    let below = from-word _ _ _ _ _ (c.args.left_window.len / c.width-bits.result) g.met.C.Elem.BitStore.width_law has (rw c.width-bits.ensures.is c.requires.skipped.inside) (le_refl _) in
+    let has = whole-window_from c.args.left_window.len g.met.C.Elem.BitStore.width_law c.width-bits.ensures.is c.requires.skipped.span.beside (same-most _ _ c.requires.skipped.span.lengths) in
+    let below = from-word _ _ _ (c.args.left_window.len / c.width-bits.result) g.met.C.Elem.BitStore.width_law has (rw c.width-bits.ensures.is c.requires.skipped.inside) (le_refl _) in
     rw c.of-stretch.ensures (omega arith)
 
 pub overflow_mul-stretch : goal.overflow_mul-stretch
@@ -133,7 +133,7 @@ after-behind-requires-clause-bound g c =
 
 pub overflow_add-behind : goal.overflow_add-behind
 overflow_add-behind g c =
-    let end = window-end _ _ c.args.right_window c.requires.skipped.span.beside in
+    let end = window-end c.requires.skipped.span.beside in
     let fits = whole_fits g.C.Elem.BitStore.BITS c.args.left_window.len (c.args.left_window.len / g.C.Elem.BitStore.BITS) (le_refl _) in
     rw (c.after-behind.ensures, c.of-stretch.ensures, c.width-bits.ensures.is) (omega arith)
 

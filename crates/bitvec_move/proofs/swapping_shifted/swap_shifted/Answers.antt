@@ -13,7 +13,7 @@ use Rattle.bitvec_move.proofs.swapping_shifted.swap_shifted.Goals as goal
 
 pub load-waiting-requires : goal.load-waiting-requires
 load-waiting-requires g c =
-    head-element _ _ _ c.args.right_window g.met.C.Elem.BitStore.width_law c.width-bits.ensures.is (omega arith) c.requires.span.beside
+    head-element g.met.C.Elem.BitStore.width_law c.width-bits.ensures.is (omega arith) c.requires.span.beside
 
 pub swap_waiting-last-requires : goal.swap_waiting-last-requires
 swap_waiting-last-requires g c =
@@ -30,7 +30,7 @@ swap_rest-requires-clause-skipped g c =
     let some = width_some _ g.met.C.Elem.BitStore.width_law in
     record {
       span = search rules;
-      edge = behind-edge _ _ c.args.left_window _ g.met.C.Elem.BitStore.width_law c.after-rest.ensures c.head_of-passed.ensures.long c.if-passed-left_window.false;
+      edge = behind-edge _ c.args.left_window g.met.C.Elem.BitStore.width_law c.after-rest.ensures c.head_of-passed.ensures.long c.if-passed-left_window.false;
       inside = rw c.after-behind.ensures (apart_edge b c.args.left_window.start c.args.right_window.start c.head_of-passed.result.1 c.args.left_window.len some c.head_of-passed.ensures.long c.if-passed-left_window.false c.requires.phases);
     }
 
@@ -60,7 +60,7 @@ returns-clause-swaps g c =
     let met : c.args.right_window.len - (c.args.right_window.len - c.head_of-passed.result.1) ≡ c.head_of-passed.result.1 = omega arith in
     let first = rw (c.head_of-passed.ensures.part, c.until-met.ensures, c.load-waiting.ensures.numbers, c.load-waiting.ensures.value, c.width-bits.ensures.is, set-get_or, met, same) at c.swap_waiting-last.ensures.swaps in
     let rest = rw (c.after-rest.ensures, c.after-behind.ensures) at c.swap_rest.ensures.swaps in
-    SwapsWindows-joined _ _ _ _ _ _ _ _ _ _ _ _ _ _ c.requires.span.window c.requires.span.beside
+    SwapsWindows-joined c.requires.span.window c.requires.span.beside
     (beside-head b c.args.left_window c.args.left_window c.head_of-passed.result.1 some c.requires.some c.head_of-passed.ensures.long refl refl)
     (rw met at (beside-parted c.args.right_window c.head_of-passed.result.1 fits))
     first rest
@@ -101,4 +101,4 @@ returns-then-passed-left_window-clause-swaps g c =
 pub store-requires : goal.store-requires
 store-requires g c =
     let loaded = ap length c.load-waiting.ensures.numbers in
-    place-element _ _ _ _ c.args.right_window _ g.met.C.Elem.BitStore.width_law c.width-bits.ensures.is c.requires.span.beside (rw c.until-met.ensures (omega arith)) (omega (arith, length-set {A = ℕ}))
+    place-element _ _ g.met.C.Elem.BitStore.width_law c.width-bits.ensures.is c.requires.span.beside (rw c.until-met.ensures (omega arith)) (omega (arith, length-set {A = ℕ}))

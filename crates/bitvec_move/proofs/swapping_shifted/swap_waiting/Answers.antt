@@ -28,18 +28,18 @@ returns-then-end-bits-clause-swaps g c =
     record {
       writes =
           rw (c.store.ensures.numbers, c.load-element.ensures.numbers)
-          (Writes-is _ _ _ _ _ _ _
-          (part-stored _ _ _ _ _ _ some c.requires.element left_merged)
+          (Writes-is
+          (part-stored _ _ _ some c.requires.element left_merged)
           (ap (λ (l : List Bool). slice_range l c.args.part.from c.args.part.to) c.toward_end-new.ensures
           ∙ range-shifted front c.args.part.from c.args.from.len c.args.part.to c.requires.lengths inside
           ∙ ap (take c.args.from.len) front_is
-          ∙ waiting-front _ _ _ _ _ some c.requires.beside c.requires.some fits));
+          ∙ waiting-front _ _ some c.requires.beside c.requires.some fits));
       right_writes =
-          Writes-is _ _ _ _ _ _ _
-          (waiting-inside _ _ _ _ _ _ _ _ some c.requires.beside c.requires.some refl fits merged)
+          Writes-is
+          (waiting-inside _ _ _ some c.requires.beside c.requires.some refl fits merged)
           (ap (λ (l : List Bool). slice_range l (c.args.from.start % b) (c.args.from.start % b + c.args.from.len)) back
           ∙ range-moved old c.args.part.from (c.args.from.start % b) c.args.from.len (c.args.from.start % b + c.args.from.len) c.args.part.to refl c.requires.lengths (omega arith) (omega arith)
-          ∙ sym (list-part _ _ _ _ c.requires.element));
+          ∙ sym (list-part _ c.requires.element));
     }
 
 pub returns-then-end-bits-clause-right_cost : goal.returns-then-end-bits-clause-right_cost
@@ -71,19 +71,19 @@ returns-clause-swaps g c =
     record {
       writes =
           rw (c.store-2.ensures.numbers, c.load-element.ensures.numbers)
-          (Writes-is _ _ _ _ _ _ _
-          (part-stored _ _ _ _ _ _ some c.requires.element merged)
+          (Writes-is
+          (part-stored _ _ _ some c.requires.element merged)
           (ap (λ (l : List Bool). slice_range l c.args.part.from c.args.part.to) c.toward_end-new-2.ensures
           ∙ range-shifted front c.args.part.from c.args.from.len c.args.part.to c.requires.lengths inside
           ∙ ap (take c.args.from.len) joined
-          ∙ waiting-across _ _ _ _ _ some c.requires.beside c.requires.some (omega arith) over));
+          ∙ waiting-across _ _ some c.requires.beside c.requires.some (omega arith) over));
       right_writes =
           rw (c.store-3.ensures.numbers, c.load-next.ensures.numbers, c.width-bits.ensures.is)
-          (Writes-is _ _ _ _ _ _ _
-          (waiting-beyond _ _ _ _ _ _ _ _ _ _ some c.requires.beside refl (omega arith) over stored waits)
+          (Writes-is
+          (waiting-beyond _ _ _ _ _ some c.requires.beside refl (omega arith) over stored waits)
           (rw (back, carried)
-          (range-moved_across old b c.args.part.from (c.args.from.start % b) c.args.from.len (c.args.from.start % b + c.args.from.len - b) c.args.part.to long head (omega arith) lengths bound
-          ∙ sym (list-part _ _ _ _ c.requires.element))));
+          (range-moved_across old c.args.part.from (c.args.from.start % b) c.args.from.len (c.args.from.start % b + c.args.from.len - b) long head (omega arith) lengths bound
+          ∙ sym (list-part _ c.requires.element))));
     }
 
 pub returns-clause-right_cost : goal.returns-clause-right_cost

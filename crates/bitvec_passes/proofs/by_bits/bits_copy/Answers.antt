@@ -14,11 +14,11 @@ pub loop-index-preserved : goal.loop-index-preserved
 loop-index-preserved g c =
     let inv = c.loop-index.invariant in
     record {
-      writes = transfer-next _ c.requires.window (length-list _ _ _ _ c.requires.beside ∙ sym c.requires.lengths) c.loop-index-test.true inv.writes c.replace_bit.ensures.writes (rw inv.right.numbers at c.get_bit-bit.ensures.value);
+      writes = transfer-next _ c.requires.window (length-list _ c.requires.beside ∙ sym c.requires.lengths) c.loop-index-test.true inv.writes c.replace_bit.ensures.writes (rw inv.right.numbers at c.get_bit-bit.ensures.value);
       cost = search rules;
       right = search rules;
     }
 
 pub returns-clause-writes : goal.returns-clause-writes
 returns-clause-writes g c =
-    transfer-all c.requires.window (length-list _ _ _ _ c.requires.beside ∙ sym c.requires.lengths) (omega arith) c.loop-index.invariant.writes
+    transfer-all c.requires.window (length-list _ c.requires.beside ∙ sym c.requires.lengths) (omega arith) c.loop-index.invariant.writes

@@ -8,7 +8,7 @@ pub loop-step-init : goal.loop-step-init
 loop-step-init g c =
     let has = c.requires.window in
     let fits = c.requires.fits in
-    let long = length-list _ g.O.BitOrder.at _ _ has in
+    let long = length-list g.O.BitOrder.at has in
     let from = c.args.from in
     let dest = c.args.dest in
     let many = c.args.to - from - 0 in
@@ -23,7 +23,7 @@ loop-step-preserved g c =
     let has = c.requires.window in
     let fits = c.requires.fits in
     let inv = c.loop-step.invariant in
-    let long = length-list _ g.O.BitOrder.at _ _ has in
+    let long = length-list g.O.BitOrder.at has in
     let from = c.args.from in
     let dest = c.args.dest in
     let step = c.loop-step.step in

@@ -25,14 +25,14 @@ loop-index-preserved g c =
     let list = list_in g.D.Elem.BitStore.BITS g.P.BitOrder.at (g.D.CellsRead.numbers c.args.right.now) c.args.from in
     let other : c.if-index-from.other ≡ slice_index_or list c.loop-index.index false = elim c.if-index-from.branch [
       | then-index-from w ↦ w.other-is ∙ rw inv.right.numbers at w.get_bit-other.ensures.value
-      | else-index-from w ↦ w.other-is ∙ le-ltb _ _ w.if-index-from.false ∙ sym (window-past _ _ _ _ (within-list _ _ _ _ c.requires.right_window) w.if-index-from.false)
+      | else-index-from w ↦ w.other-is ∙ le-ltb _ _ w.if-index-from.false ∙ sym (window-past _ _ _ _ (within-list _ c.requires.right_window) w.if-index-from.false)
     ] in
     let right : OnlyReads g.D.CellsRead c.args.right.now c.if-index-from.right (min (c.loop-index.index + 1) c.args.from.len) = elim c.if-index-from.branch [
       | then-index-from w ↦ let read = w.get_bit-other.ensures.reads in
           rw w.right-is (record { numbers = read.numbers ∙ inv.right.numbers; borrow = read.borrow ∙ inv.right.borrow; loads = grind (arith, inv.right.loads, read.loads); stores = read.stores ∙ inv.right.stores })
       | else-index-from w ↦ let same : min (c.loop-index.index + 1) c.args.from.len ≡ min c.loop-index.index c.args.from.len = omega arith in rw (w.right-is, same) inv.right
     ] in
-    let list-long = length-list _ g.O.BitOrder.at _ _ window in
+    let list-long = length-list g.O.BitOrder.at window in
     let long = length-combined (operator c.args.op) _ _ ∙ list-long in
     let bit = c.get_bit-bit.ensures.value ∙ transfer-rest _ window long inside inv.writes in
     record {
@@ -44,4 +44,4 @@ loop-index-preserved g c =
 
 pub returns-clause-writes : goal.returns-clause-writes
 returns-clause-writes g c =
-    transfer-all c.requires.window (length-combined _ _ _ ∙ length-list _ _ _ _ c.requires.window) (omega arith) c.loop-index.invariant.writes
+    transfer-all c.requires.window (length-combined _ _ _ ∙ length-list _ c.requires.window) (omega arith) c.loop-index.invariant.writes

@@ -10,7 +10,7 @@ loop-low-init g c =
     record {
       ends = omega arith;
       order = omega arith;
-      writes = Writes-start has (mirror-none _ c.args.window.len (sym (length-list _ g.O.BitOrder.at _ _ has)));
+      writes = Writes-start has (mirror-none (sym (length-list g.O.BitOrder.at has)));
       cost = search rules;
     }
 
@@ -24,11 +24,11 @@ loop-low-preserved g c =
       ends = omega arith;
       order = omega arith;
       writes = Writes-next (λ l. swap l low (high - 1)) has inv.writes c.swap_bits.ensures.writes
-          (mirror-step _ low high (inv.ends ∙ sym (length-list _ g.O.BitOrder.at _ _ has)) (omega arith));
+          (mirror-step _ low high (inv.ends ∙ sym (length-list g.O.BitOrder.at has)) (omega arith));
       cost = search rules;
     }
 
 pub returns-clause-writes : goal.returns-clause-writes
 returns-clause-writes g c =
     let inv = c.loop-low.invariant in
-    Writes-is _ _ _ _ _ _ _ inv.writes (mirror-all _ c.loop-low.low c.loop-low.high (inv.ends ∙ sym (length-list _ g.O.BitOrder.at _ _ c.requires)) inv.order (omega arith))
+    Writes-is inv.writes (mirror-all _ c.loop-low.low c.loop-low.high (inv.ends ∙ sym (length-list g.O.BitOrder.at c.requires)) inv.order (omega arith))

@@ -17,8 +17,8 @@ loop-index-preserved g c =
     let window = c.requires.window in
     let right_window = c.requires.beside in
     let inside = c.loop-index-test.true in
-    let long = length-list _ g.P.BitOrder.at _ _ right_window ∙ sym c.requires.lengths in
-    let right_long = length-list _ g.O.BitOrder.at _ _ window ∙ c.requires.lengths in
+    let long = length-list g.P.BitOrder.at right_window ∙ sym c.requires.lengths in
+    let right_long = length-list g.O.BitOrder.at window ∙ c.requires.lengths in
     let bit = c.get_bit-bit.ensures.value ∙ transfer-rest _ right_window right_long (omega arith) inv.right_writes in
     let replaced = c.replace_bit-replaced.ensures.value ∙ transfer-rest _ window long inside inv.writes in
     record {
@@ -30,8 +30,8 @@ loop-index-preserved g c =
 
 pub returns-clause-writes : goal.returns-clause-writes
 returns-clause-writes g c =
-    transfer-all c.requires.window (length-list _ _ _ _ c.requires.beside ∙ sym c.requires.lengths) (omega arith) c.loop-index.invariant.writes
+    transfer-all c.requires.window (length-list _ c.requires.beside ∙ sym c.requires.lengths) (omega arith) c.loop-index.invariant.writes
 
 pub returns-clause-right_writes : goal.returns-clause-right_writes
 returns-clause-right_writes g c =
-    transfer-all c.requires.beside (length-list _ _ _ _ c.requires.window ∙ c.requires.lengths) (omega arith) c.loop-index.invariant.right_writes
+    transfer-all c.requires.beside (length-list _ c.requires.window ∙ c.requires.lengths) (omega arith) c.loop-index.invariant.right_writes

@@ -30,12 +30,12 @@ returns-then-to-bits-clause-writes g c =
     let x = list_in b at ys (window_until (from.len - met) from) in
     let y = list_in b at ys (window_after met from) in
     let all = list_in b at ys from in
-    let x_long = length-list b at ys (window_until (from.len - met) from) (record { fits = right.fits; within = record { start = begin; len = omega arith } }) in
-    let all_long = length-list b at ys from right in
-    let taken : take (length x) all ≡ x = ap (take (length x)) (sym (list-parted b at ys from met right fits)) ∙ take-append_seam x y in
+    let x_long = length-list {b = b} at {xs = ys} {window = window_until (from.len - met) from} (record { fits = right.fits; within = record { start = begin; len = omega arith } }) in
+    let all_long = length-list at right in
+    let taken : take (length x) all ≡ x = ap (take (length x)) (sym (list-parted at met right fits)) ∙ take-append_seam x y in
     let first = rw (c.until-first.ensures, c.until-other.ensures) at c.combine_equal.ensures.writes in
     let rest = rw c.after.ensures at c.combine_zeros.ensures.writes in
-    Writes-both b at f _ _ _ (window_until (to.len - met) to) (window_after met to) to x [] all c.requires.window (omega arith) (omega arith) (omega arith)
+    Writes-both at f (window_until (to.len - met) to) (window_after met to) x [] all c.requires.window (omega arith) (omega arith) (omega arith)
     (λ (a d : List Bool) (a_long : length a ≡ to.len - (to.len - met)) (d_long : length d ≡ to.len - met).
     ap (λ (l : List Bool). combined f a l ++ combined f d []) (sym taken)
     ∙ combined-first f a d all (length x) (omega arith) (λ (k : ℕ) (late : length a ≤ k) (inside : k < length a + length d). let past : length all ≤ k = omega arith in past))

@@ -15,7 +15,7 @@ returns-clause-writes g c =
     let back = rw (c.range-back.ensures, c.load_mirrored-mirrored.ensures.reads.numbers) at c.load_mirrored-mirrored-2.ensures.mirrors.list in
     let before = rw (c.range-front.ensures, c.load_mirrored-mirrored-2.ensures.reads.numbers, c.load_mirrored-mirrored.ensures.reads.numbers, c.new.ensures.numbers) at c.copy_equal.ensures.writes in
     let after = rw (c.range-back.ensures, c.new-2.ensures.numbers) at c.copy_equal-2.ensures.writes in
-    Writes-ends b at _ _ _ c.args.window c.args.low (c.args.window.len - c.args.low) c.args.count _ _ c.requires.window (omega arith) (omega arith)
+    Writes-ends at c.args.low (c.args.window.len - c.args.low) c.args.count c.requires.window (omega arith) (omega arith)
     before (c.in_phase-from_last.ensures.list ∙ back) after (c.in_phase-from_first.ensures.list ∙ front)
 
 pub returns-clause-cost : goal.returns-clause-cost

@@ -16,6 +16,6 @@ returns-then-by-gt0-clause-list g c =
     let below = mod_below (c.args.window.start - c.args.other % b) b some in
     let moves = rw c.BITS-bits.ensures at c.if-by-gt0.true in
     let to : Window = record { start = c.args.window.start - by; len = c.args.window.len } in
-    let moved = amid-moved b g.O.BitOrder.at xs _ c.args.window to (c.args.window.start - by) by c.requires moves below (omega arith) refl refl
+    let moved = amid-moved g.O.BitOrder.at _ to (c.args.window.start - by) by c.requires moves below (omega arith) refl refl
     (rw (c.BITS-bits.ensures, c.new-cells.ensures.numbers) at c.move_elements.ensures.writes) in
     rw c.BITS-bits.ensures (search (rules, moved))

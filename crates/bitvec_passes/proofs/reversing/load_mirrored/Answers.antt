@@ -20,10 +20,10 @@ record HasPlaces (w s n most long : ℕ) : Type 0 where
   pub last : s / w + ((s % w + n - 1) / w + 1) ≤ long
   pub room : n + 2 * w ≤ w * (most - 1)
 
-has-places : (b w most : ℕ) (xs : List ℕ) (window : Window) → IsWidth b → w ≡ b → HasWindow b xs window → 0 < window.len → HoldsBeside b window.len most → HasPlaces w window.start window.len most (length xs)
-has-places b w most xs window width is has more held =
+has-places : {b w most : ℕ} {xs : List ℕ} {window : Window} → IsWidth b → w ≡ b → HasWindow b xs window → 0 < window.len → HoldsBeside b window.len most → HasPlaces w window.start window.len most (length xs)
+has-places {b} {w} {most} {xs} {window} width is has more held =
     let some = width_some b width in
-    let below = touched-beside b window.start window.len most some more held in
+    let below = touched-beside window.start some more held in
     let touched = touched-window b window.start window.len some more in
     let last : ℕ = window.start / b + ((window.start % b + window.len - 1) / b + 1) - 1 in
     let start = has.within.start in let end = has.within.len in let room = held.room in let least = touched.least in
@@ -43,13 +43,13 @@ loop-step-init g c =
     let some = width_some _ g.met.C.Elem.BitStore.width_law in
     let first : ℕ = window.start / b in
     let count : ℕ = (window.start % b + window.len - 1) / b + 1 in
-    let inside = touched-beside b window.start window.len most some c.requires.some c.requires.held in
+    let inside = touched-beside window.start some c.requires.some c.requires.held in
     let room = held-room b (map value held) (most - 1 - count) count most (omega arith) (length-map held value) c.requires.held.fits in
     let none : Window = record { start = 0; len = 0 } in
     record {
       writes = rw c.BITS-bits.ensures
-          (Writes-is b at _ _ _ _ _
-          (Writes-no_element b at (map value held) old (most - 1 - count) count none room refl)
+          (Writes-is
+          (Writes-no_element {at = at} old (most - 1 - count) count none room refl)
           (list-empty b at old none refl ∙ sym (ap reverse (list-empty b at old (elements_window b (first + count - 1 + 1 - 0) 0) (omega arith)))));
       reads = search rules;
     }
@@ -66,7 +66,7 @@ loop-step-preserved g c =
     let first : ℕ = window.start / b in
     let count : ℕ = (window.start % b + window.len - 1) / b + 1 in
     let touched = touched-window b window.start window.len some c.requires.some in
-    let inside = touched-beside b window.start window.len most some c.requires.some c.requires.held in
+    let inside = touched-beside window.start some c.requires.some c.requires.held in
     let room = held-room b (map value held) (most - 1 - count) count most (omega arith) (length-map held value) c.requires.held.fits in
     let step = c.loop-step.step in
     let below = rw c.BITS-bits.ensures at c.loop-step-test.true in
@@ -74,11 +74,11 @@ loop-step-preserved g c =
     let now : first + count - 1 + 1 - (step + 1) ≡ next = omega arith in
     let before = rw (c.BITS-bits.ensures, (let e : first + count - 1 + 1 - step ≡ next + 1 = omega arith in e)) at c.loop-step.invariant.writes in
     let made = rw (c.load.ensures.value, c.loop-step.invariant.reads.numbers, c.BITS-bits.ensures, (let e : first + count - 1 - step ≡ next = omega arith in e)) at c.reversed.ensures in
-    let has = touched-has b old window count c.requires.window (omega arith) touched.least in
+    let has = touched-has count c.requires.window (omega arith) touched.least in
     record {
       writes = rw (c.BITS-bits.ensures, map-set value c.loop-step.held (most - 1 - count + step) c.reversed.result, now)
-          (mirrored-element b at (map value held) (map value c.loop-step.held) old (most - 1 - count) count step next (value c.reversed.result) some room below
-          (last-has b old first count (step + 1) has (omega arith)) made before);
+          (mirrored-element (most - 1 - count) count step next (value c.reversed.result) some room below
+          (last-has first count (step + 1) has (omega arith)) made before);
       reads = search rules;
     }
 
@@ -93,9 +93,9 @@ returns-clause-mirrors g c =
     let some = width_some _ g.met.C.Elem.BitStore.width_law in
     let first : ℕ = window.start / b in
     let count : ℕ = (window.start % b + window.len - 1) / b + 1 in
-    let positive = held-some b window.len most c.requires.held c.requires.some in
+    let positive = held-some most c.requires.held c.requires.some in
     let touched = touched-window b window.start window.len some c.requires.some in
-    let inside = touched-beside b window.start window.len most some c.requires.some c.requires.held in
+    let inside = touched-beside window.start some c.requires.some c.requires.held in
     let room = held-room b (map value held) (most - 1 - count) count most (omega arith) (length-map held value) c.requires.held.fits in
     let place = div-add-mod' window.start b in
     let below = mod_below window.start b some in
@@ -103,19 +103,19 @@ returns-clause-mirrors g c =
     let bound = rw c.BITS-bits.ensures at c.loop-step.auto.step-end in
     let all : c.loop-step.step ≡ count = omega arith in
     let writes = rw (c.BITS-bits.ensures, all, (let e : first + count - 1 + 1 - count ≡ first = omega arith in e)) at c.loop-step.invariant.writes in
-    let has = touched-has b old window count c.requires.window (omega arith) touched.least in
+    let has = touched-has count c.requires.window (omega arith) touched.least in
     let long = length-map held value in
     let size = writes.elements in
     let to : Window = record { start = b * (most - 1) - window.start % b - window.len; len = window.len } in
-    let amid = held-amid b (map value c.loop-step.held) window.len (window.start % b) most to c.requires.some below (size ∙ long) c.requires.held refl refl in
+    let amid = held-amid (map value c.loop-step.held) (window.start % b) to c.requires.some below (size ∙ long) c.requires.held refl refl in
     let sum : b * (most - 1) ≡ (most - 1 - count) * b + count * b = ap (λ (n : ℕ). b * n) (let e : most - 1 ≡ most - 1 - count + count = omega arith in e) ∙ omega arith in
     let far = amid.before in
     rw c.BITS-bits.ensures (record {
       place = amid;
       len = refl;
-      list = mirrored-window b at (map value c.loop-step.held) old (most - 1 - count) first count window to
-          (HasWindow-kept b (map value held) _ _ room writes.elements) has touched.start touched.end refl (omega arith)
-          (Writes-holds b at (map value held) _ _ _ room writes);
+      list = mirrored-window at (most - 1 - count) first count window to
+          (HasWindow-kept _ room writes.elements) has touched.start touched.end refl (omega arith)
+          (Writes-holds room writes);
     })
 
 pub returns-clause-reads : goal.returns-clause-reads
@@ -125,13 +125,13 @@ returns-clause-reads g c =
     rw (sym count, sym all) c.loop-step.invariant.reads
 
 pub bounds-held-from : goal.bounds-held-from
-bounds-held-from g c = let has = has-places _ c.BITS-bits.result _ _ c.args.window g.met.C.Elem.BitStore.width_law c.BITS-bits.ensures c.requires.window c.requires.some c.requires.held in omega arith
+bounds-held-from g c = let has = has-places g.met.C.Elem.BitStore.width_law c.BITS-bits.ensures c.requires.window c.requires.some c.requires.held in omega arith
 
 pub load-requires : goal.load-requires
-load-requires g c = let has = has-places _ c.BITS-bits.result _ _ c.args.window g.met.C.Elem.BitStore.width_law c.BITS-bits.ensures c.requires.window c.requires.some c.requires.held in rw c.loop-step.invariant.reads.numbers (omega arith)
+load-requires g c = let has = has-places g.met.C.Elem.BitStore.width_law c.BITS-bits.ensures c.requires.window c.requires.some c.requires.held in rw c.loop-step.invariant.reads.numbers (omega arith)
 
 pub overflow_sub-result-2 : goal.overflow_sub-result-2
-overflow_sub-result-2 g c = let has = has-places _ c.BITS-bits.result _ _ c.args.window g.met.C.Elem.BitStore.width_law c.BITS-bits.ensures c.requires.window c.requires.some c.requires.held in omega arith
+overflow_sub-result-2 g c = let has = has-places g.met.C.Elem.BitStore.width_law c.BITS-bits.ensures c.requires.window c.requires.some c.requires.held in omega arith
 
 pub overflow_sub-result-3 : goal.overflow_sub-result-3
-overflow_sub-result-3 g c = let has = has-places _ c.BITS-bits.result _ _ c.args.window g.met.C.Elem.BitStore.width_law c.BITS-bits.ensures c.requires.window c.requires.some c.requires.held in omega arith
+overflow_sub-result-3 g c = let has = has-places g.met.C.Elem.BitStore.width_law c.BITS-bits.ensures c.requires.window c.requires.some c.requires.held in omega arith

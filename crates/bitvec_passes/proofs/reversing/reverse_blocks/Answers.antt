@@ -10,11 +10,11 @@ loop-low-init g c =
     let b = g.C.Elem.BitStore.BITS in
     let at = g.O.BitOrder.at in
     let has = c.requires.window in
-    let long = length-list b at _ c.args.window has in
+    let long = length-list at has in
     record {
       bound = search rules;
       words = λ more. search rules;
-      writes = Writes-start has (mirrored-none _ c.args.window.len (sym long));
+      writes = Writes-start has (mirrored-none (sym long));
       cost = search rules;
     }
 
@@ -31,7 +31,7 @@ loop-low-preserved g c =
     record {
       bound = omega arith;
       words = λ left. block-words low count (b * (g.row.HELD - 3)) words (room-words b g.row.HELD g.met.C.Elem.BitStore.width_law c.requires.held.words) (omega arith);
-      writes = Writes-mirrored b at _ _ _ c.args.window low count c.requires.window (omega arith) c.loop-low.invariant.writes c.exchange_ends.ensures.writes;
+      writes = Writes-mirrored at _ _ low count c.requires.window (omega arith) c.loop-low.invariant.writes c.exchange_ends.ensures.writes;
       cost = record { borrow = cost.borrow ∙ before.borrow; loads = omega arith; stores = omega arith };
     }
 
@@ -40,8 +40,8 @@ returns-clause-writes g c =
     let b = g.C.Elem.BitStore.BITS in
     let at = g.O.BitOrder.at in
     let has = c.requires.window in let bound = c.loop-low.invariant.bound in let end = c.loop-low-test.false in
-    let long = length-list b at _ c.args.window has in
-    Writes-is _ _ _ _ _ _ _ c.loop-low.invariant.writes (mirrored-all _ c.loop-low.low c.args.window.len (sym long) (omega arith) (omega arith))
+    let long = length-list at has in
+    Writes-is c.loop-low.invariant.writes (mirrored-all _ c.loop-low.low c.args.window.len (sym long) (omega arith) (omega arith))
 
 pub returns-clause-cost : goal.returns-clause-cost
 unfolding reverse_loads reverse_stores

@@ -13,7 +13,7 @@ use Rattle.bitvec_passes.proofs.storing.store_few.Goals as goal
 pub returns-then-window-bits-clause-writes : goal.returns-then-window-bits-clause-writes
 returns-then-window-bits-clause-writes g c =
     let short = rw c.BITS-bits.ensures at c.if-window-bits.true in
-    Writes-is _ _ _ _ _ _ _ c.store_short.ensures.writes (few-stored _ g.W.BitOrder.at c.args.window.len (g.C.Elem.BitStore.value c.moved-element.result) c.args.word short c.requires.bound c.moved-element.ensures)
+    Writes-is c.store_short.ensures.writes (few-stored _ g.W.BitOrder.at c.args.window.len (g.C.Elem.BitStore.value c.moved-element.result) c.args.word short c.requires.bound c.moved-element.ensures)
 
 pub returns-then-window-bits-clause-cost : goal.returns-then-window-bits-clause-cost
 returns-then-window-bits-clause-cost g c =
@@ -36,5 +36,5 @@ returns-else-window-bits-gt0-clause-writes g c =
     let whole = word_whole b g.met.C.Elem.BitStore.width_law (omega arith) in let place = div-add-mod' window.start b in
     let edge : window.start % b ≡ 0 = rw (sym c.BITS-bits.ensures) (omega arith) in
     let wide = length-element_bits 64 g.W.BitOrder.at c.args.word in
-    let is = Writes-is _ _ _ _ _ _ _ (rw c.BITS-bits.ensures at c.store_elements.ensures.writes) (sym (take-all _ window.len (omega arith))) in
+    let is = Writes-is (rw c.BITS-bits.ensures at c.store_elements.ensures.writes) (sym (take-all _ window.len (omega arith))) in
     Writes-same (elements_window b (window.start / b) (64 / b)) window (omega arith) (omega arith) is

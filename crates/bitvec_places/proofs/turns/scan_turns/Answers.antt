@@ -6,7 +6,7 @@ use Rattle.bitvec_places.proofs.turns.scan_turns.Goals as goal
 
 pub loop-number-init : goal.loop-number-init
 loop-number-init g c =
-    let long = length-list g.C.Elem.BitStore.BITS g.O.BitOrder.at _ c.args.window c.requires.window in
+    let long = length-list g.O.BitOrder.at c.requires.window in
     let start : c.args.window.start + 0 ≡ c.args.window.start = omega arith in
     let len : c.args.window.len - 0 ≡ c.args.window.len = omega arith in
     record {

@@ -6,13 +6,13 @@ use Rattle.bitvec_run.proofs.field_stepping.transfer.Goals as goal
 pub returns-in-LoadLe : goal.returns-in-LoadLe
 returns-in-LoadLe g c = λ (right : List Bool). rw c.in-LoadLe.is record {
   reply = ap Number c.load_le.ensures.value;
-  writes = Writes-nothing _ _ _ _ _ c.requires.window c.load_le.ensures.reads.numbers;
+  writes = Writes-nothing _ _ c.requires.window c.load_le.ensures.reads.numbers;
   cost = search rules;
 }
 
 pub returns-in-LoadBe : goal.returns-in-LoadBe
 returns-in-LoadBe g c = λ (right : List Bool). rw c.in-LoadBe.is record {
   reply = ap Number c.load_be.ensures.value;
-  writes = Writes-nothing _ _ _ _ _ c.requires.window c.load_be.ensures.reads.numbers;
+  writes = Writes-nothing _ _ c.requires.window c.load_be.ensures.reads.numbers;
   cost = search rules;
 }

@@ -51,5 +51,5 @@ returns g c =
 pub carry_out-requires : goal.carry_out-requires
 carry_out-requires g c =
     let inv = c.loop-next.invariant in
-    let fits = HasWindow-whole _ _ (c.fits_max_bits.ensures.0 c.if-not-fits_max_bits.false) in
-    record { window = HasWindow-kept _ _ _ _ (c.has_window.ensures.0 c.if-not-has_window.false) inv.ran.writes.elements; right_window = rw (c.whole-source.ensures, inv.ran.right.numbers) fits }
+    let fits = HasWindow-whole (c.fits_max_bits.ensures.0 c.if-not-fits_max_bits.false) in
+    record { window = HasWindow-kept _ (c.has_window.ensures.0 c.if-not-has_window.false) inv.ran.writes.elements; right_window = rw (c.whole-source.ensures, inv.ran.right.numbers) fits }

@@ -17,7 +17,7 @@ loop-index-init g c = record {
 
 pub carry_out-requires-clause-window : goal.carry_out-requires-clause-window
 carry_out-requires-clause-window g c =
-    let has = HasWindow-kept _ _ _ c.args.window c.requires.window c.loop-index.invariant.ran.writes.elements in
+    let has = HasWindow-kept _ c.requires.window c.loop-index.invariant.ran.writes.elements in
     rw c.side_window-part.ensures (side-has _ _ c.args.window c.args.mid _ has c.requires.bound)
 
 pub carry_out-requires-clause-right_window : goal.carry_out-requires-clause-right_window
@@ -46,7 +46,7 @@ returns g c =
       runs = record {
         replies_is = sym (take_all c.loop-index.index c.loop-index.out (omega (arith, over, inv.count, c.requires.lengths))) ∙ inv.ran.replied
             ∙ replies-all (side_reply right) (side_lists right) lists c.args.steps.now c.loop-index.index (omega (arith, over));
-        writes = Writes-is _ _ _ _ c.args.window _ _ inv.ran.writes (ap joined (after-all (side_lists right) lists c.args.steps.now c.loop-index.index (omega (arith, over))));
+        writes = Writes-is inv.ran.writes (ap joined (after-all (side_lists right) lists c.args.steps.now c.loop-index.index (omega (arith, over))));
       };
       borrow = inv.borrow;
     }

@@ -11,7 +11,7 @@ pub loop-width-init : goal.loop-width-init
 loop-width-init g c =
     let some = width_some _ g.met.C.Elem.BitStore.width_law in
     let word = c.to_u128-word.ensures in
-    let value = number-element g.O.WordOrder.HIGH _ g.O.BitOrder.at _ _ (g.met.O.WordOrder.ends_law _) (word.number ∙ c.load.ensures.value) word.in_range in
+    let value = number-element g.O.WordOrder.HIGH _ g.O.BitOrder.at (g.met.O.WordOrder.ends_law _) (word.number ∙ c.load.ensures.value) word.in_range in
     record {
       some = omega arith;
       width = omega arith;
@@ -41,10 +41,10 @@ loop-width-preserved g c =
     let last = rw (← back) at left in
     let has = HasWindow-elements _ _ c.args.window (c.loop-width.count + 1) c.requires.window (omega arith) last in
     let next = c.to_u128-next.ensures in
-    let element = number-element g.O.WordOrder.HIGH _ g.O.BitOrder.at _ _ (g.met.O.WordOrder.ends_law _) (next.number ∙ c.load-in-loop-width.ensures.value) next.in_range in
+    let element = number-element g.O.WordOrder.HIGH _ g.O.BitOrder.at (g.met.O.WordOrder.ends_law _) (next.number ∙ c.load-in-loop-width.ensures.value) next.in_range in
     let value = rw (c.BITS-bits.ensures, inv.reads.numbers) at element in
     let joined = rw (c.BITS-bits.ensures, inv.width) at c.with_next-word.ensures in
-    let whole = number-next _ _ _ _ _ _ _ _ some has inv.value value in
+    let whole = number-next _ _ _ _ some has inv.value value in
     let reads = inv.reads in
     let more = c.load-in-loop-width.ensures in
     record {
@@ -68,7 +68,7 @@ returns-clause-value g c =
     ap (bit_and (c.loop-width.word / 2 ^ c.bits_below-below.result)) mask
     ∙ and_mask (c.loop-width.word / 2 ^ c.bits_below-below.result) len
     ∙ ap (λ (n : ℕ). c.loop-width.word / 2 ^ n % 2 ^ len) below
-    ∙ number-cut _ _ _ _ c.args.window _ _ has all inv.value
+    ∙ number-cut _ _ c.args.window _ has all inv.value
 
 pub returns-clause-reads : goal.returns-clause-reads
 returns-clause-reads g c =

@@ -6,4 +6,4 @@ use Rattle.bitvec_segments.proofs.part.part_number.Goals as goal
 pub returns-clause-value : goal.returns-clause-value
 returns-clause-value g c =
     rw c.load-element.ensures.value at c.number_between.ensures
-    ∙ ap (segment_number g.O.WordOrder.HIGH) (sym (list-part _ _ _ _ c.requires.part))
+    ∙ ap (segment_number g.O.WordOrder.HIGH) (sym (list-part _ c.requires.part))

@@ -11,7 +11,7 @@ use Rattle.bitvec_segments.proofs.storing.store.Goals as goal
 pub returns-then-window-eq0-clause-writes : goal.returns-then-window-eq0-clause-writes
 returns-then-window-eq0-clause-writes g c =
     let none : c.args.window.len ≡ 0 = omega arith in
-    stored-nothing _ _ _ _ _ c.args.window _ c.requires.window none
+    stored-nothing _ _ _ _ c.requires.window none
 
 pub returns-then-window-bits : goal.returns-then-window-bits
 returns-then-window-bits g c =

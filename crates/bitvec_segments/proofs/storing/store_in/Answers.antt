@@ -14,14 +14,14 @@ loop-left-preserved g c =
     let window = c.args.window in
     let rest = c.loop-left.rest in
     let turn = turn _ _ rest _ _ _ g.met.C.Elem.BitStore.width_law inv.count c.loop-left-test.true c.part_at-part.ensures c.BITS-bits.ensures c.len-len.ensures in
-    let edges = edge_loads-next b window rest c.len-len.result turn.some turn.more turn.step inv.walk in
+    let edges = edge_loads-next c.len-len.result turn.some turn.more turn.step inv.walk in
     let stored = rw (turn.is, c.lower_bits-below.ensures.bits) at c.store_part_number.ensures in
     rw c.after-rest.ensures (record {
-      has = HasWindow-part _ _ rest _ (HasWindow-kept _ _ _ rest inv.has stored.writes.elements) (omega arith) (omega arith);
-      walk = Walked-next _ _ _ _ turn.some turn.more turn.step inv.walk;
+      has = HasWindow-part _ (HasWindow-kept _ inv.has stored.writes.elements) (omega arith) (omega arith);
+      walk = Walked-next turn.some turn.more turn.step inv.walk;
       count = omega arith;
       fewer = omega arith;
-      place = Begins-next b rest c.len-len.result c.loop-left.element _ turn.some turn.step (inv.place c.loop-left-test.true).0 (omega arith);
+      place = Begins-next b rest turn.some turn.step (inv.place c.loop-left-test.true).0 (omega arith);
       left = Left-next _ _ _ _ _ _ _ window rest _ _ turn.some turn.more turn.step inv.has (omega arith) inv.left stored.writes;
       cost = record { borrow = search rules; loads = omega arith; stores = omega arith };
     })
@@ -29,13 +29,13 @@ loop-left-preserved g c =
 pub returns-clause-writes : goal.returns-clause-writes
 returns-clause-writes g c =
     let inv = c.loop-left.invariant in
-    inv.left _ (stored-nothing _ _ _ _ _ c.loop-left.rest _ inv.has (none-left _ _ _ _ inv.count c.loop-left-test.false))
+    inv.left _ (stored-nothing _ _ _ _ inv.has (none-left _ _ _ _ inv.count c.loop-left-test.false))
 
 pub store_part_number-requires-clause-part : goal.store_part_number-requires-clause-part
 store_part_number-requires-clause-part g c =
     let inv = c.loop-left.invariant in
     let some = width_some _ g.met.C.Elem.BitStore.width_law in
-    rw (c.part_at-part.ensures, c.BITS-bits.ensures) (HasPart-first _ _ c.loop-left.rest _ some (some-left _ _ _ _ inv.count c.loop-left-test.true) inv.has (Walked-start _ _))
+    rw (c.part_at-part.ensures, c.BITS-bits.ensures) (HasPart-first some (some-left _ _ _ _ inv.count c.loop-left-test.true) inv.has (Walked-start _ _))
 
 pub store_part_number-requires-clause-some : goal.store_part_number-requires-clause-some
 store_part_number-requires-clause-some g c =

@@ -40,7 +40,7 @@ returns g c =
     let step = whole ∙ edge-len b c.args.element window some edge in
     let part : c.part_at-part-2.result ≡ first_part_of b window = c.part_at-part-2.ensures ∙ ap (λ (n : ℕ). first_part_of n window) c.BITS-bits.ensures in
     let next : c.part_at-last.result ≡ first_part_of b rest = rw after at c.part_at-last.ensures ∙ ap (λ (n : ℕ). first_part_of n rest) c.BITS-bits.ensures in
-    let has = HasWindow-part b _ window rest c.requires.number.window (omega arith) (omega arith) in
+    let has = HasWindow-part rest c.requires.number.window (omega arith) (omega arith) in
     let first = rw (part, c.lower_bits.ensures.bits, after) at c.store_part_number-2.ensures in
     let second = rw (next, c.lower_bits-2.ensures.bits, c.BITS-bits.ensures) at c.store_part_number-3.ensures in
     let left = edge-len b (c.args.element + 1) rest some (omega arith) in
@@ -54,7 +54,7 @@ returns g c =
     let second_stores = second.cost.stores in
     record {
       writes = stored-joined _ _ _ _ _ window b some c.requires.some step c.requires.number.window _ _ c.args.number first.writes
-          (stored-one _ _ _ _ _ rest (min rest.len b) some (omega arith) left (HasWindow-kept _ _ _ rest has first.writes.elements) _ _ (omega arith) second.writes);
+          (stored-one _ _ _ _ _ rest (min rest.len b) some (omega arith) left (HasWindow-kept _ has first.writes.elements) _ _ (omega arith) second.writes);
       cost = record { borrow = second.cost.borrow ∙ first.cost.borrow; loads = omega arith; stores = omega arith };
     }
 
@@ -66,7 +66,7 @@ part_at-part-requires g c =
 
 pub store_part_number-requires : goal.store_part_number-requires
 store_part_number-requires g c =
-    let first = first-part _ _ _ _ _ g.met.C.Elem.BitStore.width_law c.requires.some c.requires.number.window c.part_at-part.ensures c.BITS-bits.ensures in
+    let first = first-part g.met.C.Elem.BitStore.width_law c.requires.some c.requires.number.window c.part_at-part.ensures c.BITS-bits.ensures in
     record { part = first.0; some = first.1 }
 
 pub part_at-part-requires-2 : goal.part_at-part-requires-2
@@ -86,7 +86,7 @@ part_at-last-requires g c =
 
 pub store_part_number-requires-2 : goal.store_part_number-requires-2
 store_part_number-requires-2 g c =
-    let first = first-part _ _ _ _ _ g.met.C.Elem.BitStore.width_law c.requires.some c.requires.number.window c.part_at-part-2.ensures c.BITS-bits.ensures in
+    let first = first-part g.met.C.Elem.BitStore.width_law c.requires.some c.requires.number.window c.part_at-part-2.ensures c.BITS-bits.ensures in
     record { part = first.0; some = first.1 }
 
 pub store_part_number-requires-3 : goal.store_part_number-requires-3
@@ -95,7 +95,7 @@ store_part_number-requires-3 g c =
     let long = rw c.BITS-bits.ensures at c.if-window-bits.false in
     let rest = window_after b c.args.window in
     let next = rw (c.after-rest.ensures, c.BITS-bits.ensures) at c.part_at-last.ensures in
-    let has = HasWindow-part b _ c.args.window rest c.requires.number.window (omega arith) (omega arith) in
-    let kept = HasWindow-kept _ _ _ rest has c.store_part_number-2.ensures.writes.elements in
-    let first = first-part b b _ rest _ g.met.C.Elem.BitStore.width_law (omega arith) kept next refl in
+    let has = HasWindow-part rest c.requires.number.window (omega arith) (omega arith) in
+    let kept = HasWindow-kept _ has c.store_part_number-2.ensures.writes.elements in
+    let first = first-part {w = b} g.met.C.Elem.BitStore.width_law (omega arith) kept next refl in
     record { part = first.0; some = first.1 }

@@ -2,4 +2,4 @@ use Rattle.bitvec_within.proofs.Combining.{none-combined}
 use Rattle.bitvec_within.proofs.combining_within.combine_few.Goals as goal
 
 pub returns-then-ranges-eq0 : goal.returns-then-ranges-eq0
-returns-then-ranges-eq0 g c = record { combines = none-combined _ g.O.BitOrder.at _ c.args.ranges c.args.op c.requires.ranges c.if-ranges-eq0.true }
+returns-then-ranges-eq0 g c = record { combines = none-combined g.O.BitOrder.at c.args.op c.requires.ranges c.if-ranges-eq0.true }

@@ -18,4 +18,4 @@ returns g c =
     let before = first-before b from _ _ first-is in
     let room = held-room b len (length cells) from _ _ first-is many inside c.requires.held in
     let same = held-list b g.O.BitOrder.at value cells c.copy_from_slice.new.self from _ _ len (width_some b g.met.T.BitStore.width_law) c.copy_from_slice.ensures.after (omega arith) before room in
-    record { combines = window-combined b g.O.BitOrder.at _ _ c.args.ranges c.args.op (rw same at (rw c.BITS-bits.ensures at c.combine_block_in.ensures.writes)) }
+    record { combines = window-combined {b = b} {at = g.O.BitOrder.at} c.args.ranges c.args.op (rw same at (rw c.BITS-bits.ensures at c.combine_block_in.ensures.writes)) }

@@ -10,14 +10,14 @@ use Rattle.bitvec_within.proofs.needles.contains_by.Goals.{else-starts-ne0-via-t
 
 pub returns-then-right_window-left_window : goal.returns-then-right_window-left_window
 returns-then-right_window-left_window g c =
-    let left = length-list _ g.O.BitOrder.at _ _ c.requires.window in
-    let right = length-list _ g.P.BitOrder.at _ _ c.requires.right_window in
+    let left = length-list g.O.BitOrder.at c.requires.window in
+    let right = length-list g.P.BitOrder.at c.requires.right_window in
     stands-nowhere _ _ 0 (omega arith) (λ k below. absurd (omega arith))
 
 pub loop-from-preserved : goal.loop-from-preserved
 loop-from-preserved g c =
     let inv = c.loop-from.invariant in
-    let right = length-list _ g.P.BitOrder.at _ _ c.requires.right_window in
+    let right = length-list g.P.BitOrder.at c.requires.right_window in
     let starts = c.candidates-starts.result in
     let none : (i : ℕ) → i < 64 → slice_index_or (element_bits 64 g.W.BitOrder.at starts) i false ≡ true → stands_at _ _ (c.loop-from.from + i) ≡ false =
     elim c.else-starts-ne0.branch [
@@ -32,6 +32,6 @@ loop-from-preserved g c =
 
 pub returns : goal.returns
 returns g c =
-    let left = length-list _ g.O.BitOrder.at _ _ c.requires.window in
-    let right = length-list _ g.P.BitOrder.at _ _ c.requires.right_window in
+    let left = length-list g.O.BitOrder.at c.requires.window in
+    let right = length-list g.P.BitOrder.at c.requires.right_window in
     stands-nowhere _ _ c.loop-from.from (omega arith) c.loop-from.invariant.absent

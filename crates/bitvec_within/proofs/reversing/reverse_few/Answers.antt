@@ -8,6 +8,6 @@ use Rattle.bitvec_within.proofs.reversing.reverse_few.Goals as goal
 
 pub returns : goal.returns
 returns g c =
-    let long = length-list _ g.W.BitOrder.at _ _ c.requires.window in
-    let moved = rw c.reversed-word.ensures at c.moved-mirrored.ensures ∙ reversed-word 64 _ c.args.window.len _ (length-element_bits 64 _ _) c.requires.few refl in
-    record { writes = few-edited _ _ _ _ c.args.window reverse _ _ c.requires.window c.few_word.ensures moved (length-reverse _ ∙ long) c.store_few_in.ensures.writes }
+    let long = length-list g.W.BitOrder.at c.requires.window in
+    let moved = rw c.reversed-word.ensures at c.moved-mirrored.ensures ∙ reversed-word _ c.args.window.len (length-element_bits 64 _ _) c.requires.few refl in
+    record { writes = few-edited reverse c.requires.window c.few_word.ensures moved (length-reverse _ ∙ long) c.store_few_in.ensures.writes }

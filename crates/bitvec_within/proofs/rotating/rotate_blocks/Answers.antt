@@ -14,7 +14,7 @@ loop-count-init g c =
     record {
       within = let fits = c.requires.bound in omega arith;
       shorter = let count = c.min-count.ensures in omega arith;
-      writes = Writes-nothing b at now now c.args.window c.requires.window refl;
+      writes = Writes-nothing at now c.requires.window refl;
       rotated = behind-none (list_in b at now c.args.window) c.args.by;
     }
 
@@ -32,12 +32,12 @@ loop-count-preserved g c =
     let done = c.loop-count.done in
     let left = c.loop-count.left in
     let count = c.loop-count.count in
-    let has = HasWindow-kept b before now window c.requires.window inv.writes.elements in
-    let long : length list ≡ window.len = length-list b at now window has in
+    let has = HasWindow-kept now c.requires.window inv.writes.elements in
+    let long : length list ≡ window.len = length-list at has in
     let within = inv.within in
     let shorter = inv.shorter in
     let swapped = c.swap_ranges.ensures.writes in
-    let holds = Writes-holds b at now new window _ has swapped in
+    let holds = Writes-holds has swapped in
     let same : rotated_behind (done + count) c.if-count-left.left (swapped_within done (done + count) (done + left) list) ≡ rotated_behind done left list =
     elim c.if-count-left.branch [
       | then-count-left w ↦ let less = w.if-count-left in rw w.left-is (last-exchanged list done left count (omega arith) (omega arith))
@@ -51,7 +51,7 @@ loop-count-preserved g c =
     record {
       within = rest;
       shorter = c.min-count-in-loop-count.ensures;
-      writes = Writes-is b at before new window _ _ (Writes-then b at before now new window _ _ c.requires.window inv.writes swapped) (sym holds);
+      writes = Writes-is (Writes-then c.requires.window inv.writes swapped) (sym holds);
       rotated = rw holds (same ∙ inv.rotated);
     }
 

@@ -7,5 +7,5 @@ use Rattle.bitvec_within.proofs.rotating.rotate_few.Goals as goal
 
 pub returns : goal.returns
 returns g c =
-    let long = length-list _ g.W.BitOrder.at _ _ c.requires.window in
-    record { writes = few-edited _ _ _ _ c.args.window (rotated_left c.args.by) _ _ c.requires.window c.few_word-word.ensures c.rotated_word-rotated.ensures (length-rotated_left c.args.by _ ∙ long) c.store_few_in.ensures.writes }
+    let long = length-list g.W.BitOrder.at c.requires.window in
+    record { writes = few-edited (rotated_left c.args.by) c.requires.window c.few_word-word.ensures c.rotated_word-rotated.ensures (length-rotated_left c.args.by _ ∙ long) c.store_few_in.ensures.writes }

@@ -12,12 +12,12 @@ returns-then-by-eq0 g c = record { writes = Writes-start c.requires.window (rw c
 pub returns : goal.returns
 returns g c =
     let list = list_in g.T.BitStore.BITS g.O.BitOrder.at (map g.T.BitStore.value c.args.elements.now) c.args.window in
-    let long = length-list g.T.BitStore.BITS g.O.BitOrder.at (map g.T.BitStore.value c.args.elements.now) c.args.window c.requires.window in
+    let long = length-list g.O.BitOrder.at c.requires.window in
     let len = c.args.window.len in
     let by = c.args.by in
     let fits = c.requires.bound in
     record {
-      writes = Writes-aside _ _ _ _ _ _ _ c.args.window _ 0 by (len - by) len _ _ c.requires.window (held-inside _ _ _ _ g.met.T.BitStore.width_law (length-map c.args.held.now g.T.BitStore.value) (omega arith) (omega arith)) (omega arith) fits (omega arith) (omega arith)
+      writes = Writes-aside 0 by (len - by) len c.requires.window (held-inside g.met.T.BitStore.width_law (length-map c.args.held.now g.T.BitStore.value) (omega arith) (omega arith)) (omega arith) fits (omega arith) (omega arith)
           (rw c.range.ensures at c.copy_from_long_block_in.ensures.writes) c.copy_within_in.ensures.writes (rw c.range-behind.ensures at c.copy_from_long_block_in-2.ensures.writes)
           (front-held list by len (sym long) fits);
     }

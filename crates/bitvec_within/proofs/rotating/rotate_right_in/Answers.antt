@@ -10,6 +10,6 @@ returns g c =
     let by = c.args.by in
     let list = list_in g.T.BitStore.BITS g.O.BitOrder.at (map g.T.BitStore.value c.args.elements.now) c.args.window in
     record {
-      writes = Writes-is _ _ _ _ _ _ _ c.rotate_left_in.ensures.writes
-          (sym (rotated_right-left by list ∙ ap (λ (n : ℕ). rotated_left (n - by) list) (length-list _ g.O.BitOrder.at _ _ c.requires.window)));
+      writes = Writes-is c.rotate_left_in.ensures.writes
+          (sym (rotated_right-left by list ∙ ap (λ (n : ℕ). rotated_left (n - by) list) (length-list g.O.BitOrder.at c.requires.window)));
     }

@@ -8,7 +8,7 @@ use Rattle.bitvec_within.proofs.swapping_within.swap_ranges.Goals as goal
 pub returns : goal.returns
 returns g c =
     let list = list_in g.T.BitStore.BITS g.O.BitOrder.at (map g.T.BitStore.value c.args.elements.now) c.args.window in
-    let long = length-list g.T.BitStore.BITS g.O.BitOrder.at (map g.T.BitStore.value c.args.elements.now) c.args.window c.requires.window in
+    let long = length-list g.O.BitOrder.at c.requires.window in
     let first = c.args.first in
     let second = c.args.second in
     let len = c.args.len in

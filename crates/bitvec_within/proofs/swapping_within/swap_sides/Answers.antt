@@ -28,7 +28,7 @@ returns g c =
     let same : bits ≡ b = c.BITS-bits.ensures in
     let near = c.range-near.result in
     let far : Window = record { start = (window.start + c.args.second) % bits; len = c.args.len } in
-    let far-start : b * length (map value front) + far.start ≡ window.start + c.args.second = cut-place b bits value front window c.args.second same c.split_at_mut-front.ensures.front_len in
+    let far-start : b * length (map value front) + far.start ≡ window.start + c.args.second = cut-place value front window c.args.second same c.split_at_mut-front.ensures.front_len in
     let near-start : near.start ≡ window.start + c.args.first = ap (λ (w : Window). w.start) c.range-near.ensures in
     let near-len : near.len ≡ c.args.len = ap (λ (w : Window). w.len) c.range-near.ensures ∙ omega arith in
     let elements : map value c.args.elements.now ≡ map value front ++ map value rest = ap (map value) c.split_at_mut-front.ensures.value ∙ map-append value front rest in

@@ -17,7 +17,7 @@ returns-then-window-eq0 g c =
     }
 
 pub split_head-requires : goal.split_head-requires
-split_head-requires g c = record { some = omega arith; end = window-end _ _ c.args.window c.requires }
+split_head-requires g c = record { some = omega arith; end = window-end c.requires }
 
 pub count_part-ones-requires : goal.count_part-ones-requires
 count_part-ones-requires g c = HasPart-is c.split_head.ensures.part (HasWindow-front c.split_head.ensures.split c.requires)
@@ -39,7 +39,7 @@ count_aligned-requires-2 g c =
 pub overflow_add-result : goal.overflow_add-result
 overflow_add-result g c =
     let rest = rw c.count_part-ones.ensures.reads.numbers at c.count_aligned-2.ensures.value in
-    let few = count-few _ g.O.BitOrder.at _ c.args.window _ c.requires (split-count c.split_head.ensures.split g.O.BitOrder.at c.requires _ _ c.count_part-ones.ensures.value rest) in
+    let few = count-few g.O.BitOrder.at c.requires (split-count c.split_head.ensures.split g.O.BitOrder.at c.requires _ _ c.count_part-ones.ensures.value rest) in
     omega arith
 
 pub returns : goal.returns

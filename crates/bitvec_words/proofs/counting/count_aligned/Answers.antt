@@ -6,7 +6,7 @@ use Rattle.bitvec_words.proofs.SplitLemmas.{HasPart-is, HasWindow-behind, HasWin
 use Rattle.bitvec_words.proofs.counting.count_aligned.Goals as goal
 
 pub split_tail-first-requires : goal.split_tail-first-requires
-split_tail-first-requires g c = record { edge = c.requires.edge; end = window-end _ _ c.args.window c.requires.window }
+split_tail-first-requires g c = record { edge = c.requires.edge; end = window-end c.requires.window }
 
 pub count_whole-ones-requires : goal.count_whole-ones-requires
 count_whole-ones-requires g c = HasWindow-front c.split_tail-first.ensures.split c.requires.window
@@ -27,7 +27,7 @@ count_part-requires g c =
 pub overflow_add-result : goal.overflow_add-result
 overflow_add-result g c =
     let tail = rw c.count_whole-ones.ensures.reads.numbers at c.count_part.ensures.value in
-    let few = count-few _ g.O.BitOrder.at _ c.args.window _ c.requires.window (split-count c.split_tail-first.ensures.split g.O.BitOrder.at c.requires.window _ _ c.count_whole-ones.ensures.value tail) in
+    let few = count-few g.O.BitOrder.at c.requires.window (split-count c.split_tail-first.ensures.split g.O.BitOrder.at c.requires.window _ _ c.count_whole-ones.ensures.value tail) in
     omega arith
 
 pub returns : goal.returns

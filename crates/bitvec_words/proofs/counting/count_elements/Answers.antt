@@ -23,8 +23,8 @@ overflow_add-ones g c =
     let value = rw inv.reads.numbers at c.load.ensures.value in
     let order = mul-le-mul_left b more in
     let ones = count-element b g.O.BitOrder.at (g.met.O.BitOrder.permutes _ width) _ _ _ _ _ _ _ (width_some _ width) c.requires more value c.load.ensures.in_range inv.ones c.count_ones.ensures in
-    let most = count-within b g.O.BitOrder.at _ _ _
-    (HasWindow-part b _ (elements_window b c.args.first c.args.count) (elements_window b c.args.first (c.loop-step.step + 1)) c.requires (omega arith) (omega arith))
+    let most = count-within g.O.BitOrder.at
+    (HasWindow-part (elements_window b c.args.first (c.loop-step.step + 1)) c.requires (omega arith) (omega arith))
     ones in
     omega arith
 

@@ -39,7 +39,7 @@ overflow_add-ones-2 g c =
     let words = rw (c.BITS-bits.ensures, blocks.reads.numbers) at c.count_words-ones-2.ensures in
     let ones = count-fours b c.args.first c.args.count width c.requires _ _ blocks.ones words.value in
     let parts = parted-words b c.args.first c.args.count width c.requires in
-    let few = count-few b (λ e i. i) _ _ _ parts.front ones in
+    let few = count-few (λ e i. i) parts.front ones in
     omega arith
 
 pub count_elements-requires-2 : goal.count_elements-requires-2
@@ -55,7 +55,7 @@ overflow_add-result g c =
     let ones = count-fours b c.args.first c.args.count width c.requires _ _ blocks.ones words.value in
     let parts = parted-words b c.args.first c.args.count width c.requires in
     let left = rw (c.BITS-bits.ensures, words.reads.numbers ∙ blocks.reads.numbers) at c.count_elements-2.ensures in
-    let few = count-few b g.O.BitOrder.at _ _ _ c.requires (count-left parts g.O.BitOrder.at (g.met.O.BitOrder.permutes _ width) _ _ (width_some b width) ones left.value) in
+    let few = count-few g.O.BitOrder.at c.requires (count-left parts g.O.BitOrder.at (g.met.O.BitOrder.permutes _ width) _ _ (width_some b width) ones left.value) in
     omega arith
 
 pub returns : goal.returns

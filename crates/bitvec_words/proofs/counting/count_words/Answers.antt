@@ -14,7 +14,7 @@ loop-step-init g c = record {
 pub load_word-requires : goal.load_word-requires
 load_word-requires g c =
     let here = word-block _ c.args.first c.args.count c.loop-step.step g.met.C.Elem.BitStore.width_law c.requires.window c.loop-step-test.true in
-    rw (c.loop-step.invariant.reads.numbers, c.BITS.ensures) (elements-inside _ _ _ _ (width_some _ g.met.C.Elem.BitStore.width_law) here.here)
+    rw (c.loop-step.invariant.reads.numbers, c.BITS.ensures) (elements-inside _ _ (width_some _ g.met.C.Elem.BitStore.width_law) here.here)
 
 pub overflow_add-ones : goal.overflow_add-ones
 overflow_add-ones g c =

@@ -4,7 +4,7 @@ use Rattle.bitvec_base.specs.WritesLaws.{length-list}
 use Rattle.bitvec_words.proofs.counting.count_zeros.Goals as goal
 
 pub overflow_sub-result : goal.overflow_sub-result
-overflow_sub-result g c = ones_within _ _ _ (sym (length-list _ g.O.BitOrder.at _ _ c.requires)) c.count.ensures.value
+overflow_sub-result g c = ones_within _ (sym (length-list g.O.BitOrder.at c.requires)) c.count.ensures.value
 
 pub returns-clause-value : goal.returns-clause-value
-returns-clause-value g c = zeros_left _ _ _ (sym (length-list _ _ _ _ c.requires)) c.count.ensures.value
+returns-clause-value g c = zeros_left _ (sym (length-list _ c.requires)) c.count.ensures.value

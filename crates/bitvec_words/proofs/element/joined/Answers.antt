@@ -8,4 +8,4 @@ returns g c =
     let b = g.T.BitStore.BITS in
     let at = g.O.BitOrder.at in
     rw (c.xor.ensures, element-xor, c.toward_start.ensures, c.toward_end-carried.ensures)
-    (shifted-joined b c.BITS.result c.args.skip _ _ (length-element_bits b at _) (length-element_bits b at _) c.BITS.ensures c.requires.bound)
+    (shifted-joined c.args.skip _ _ (length-element_bits b at _) (length-element_bits b at _) c.BITS.ensures c.requires.bound)

@@ -7,13 +7,13 @@ pub loop-size-init : goal.loop-size-init
 loop-size-init g c =
     let t = g.T.BitStore in
     let all = ap t.value c.ALL-lower.ensures ∙ g.met.T.BitStore.all_law in
-    rw c.BITS-size.ensures (ReversesBlocks-start t.BITS _ _ g.met.T.BitStore.width_law all)
+    rw c.BITS-size.ensures (ReversesBlocks-start t.BITS g.met.T.BitStore.width_law all)
 
 pub loop-size-preserved : goal.loop-size-preserved
 unfolding halved_blocks
 loop-size-preserved g c =
     rw (c.exchanged-mirrored.ensures, c.xor-lower.ensures, c.shl.ensures)
-    (ReversesBlocks-next g.T.BitStore.BITS c.loop-size.size (c.loop-size.size / 2) _ _ _ c.loop-size.invariant (omega arith) refl)
+    (ReversesBlocks-next (c.loop-size.size / 2) c.loop-size.invariant (omega arith) refl)
 
 pub returns : goal.returns
 returns g c =

@@ -13,14 +13,14 @@ returns-then-window-eq0 g c =
     let none = c.if-window-eq0.true in
     let nothing = touched-none g.C.Elem.BitStore.BITS c.args.window.start in
     record {
-      writes = Writes-is _ _ _ _ _ _ _ (Writes-empty _ _ _ _ _ c.requires none refl) (replicate-is 0 _ _ (sym none));
+      writes = Writes-is (Writes-empty _ _ c.requires none refl) (replicate-is _ (sym none));
       cost = record { borrow = refl; loads = omega arith; stores = omega arith };
       stores = rw none (omega arith);
       loads = omega arith;
     }
 
 pub split_head-requires : goal.split_head-requires
-split_head-requires g c = record { some = omega arith; end = window-end _ _ c.args.window c.requires }
+split_head-requires g c = record { some = omega arith; end = window-end c.requires }
 
 pub fill_part-requires : goal.fill_part-requires
 fill_part-requires g c = HasPart-is c.split_head.ensures.part (HasWindow-front c.split_head.ensures.split c.requires)
@@ -34,7 +34,7 @@ returns-then-rest-eq0 g c =
     let edges = fill_loads-some c.args.window.len c.if-window-eq0.false in
     let cost = c.fill_part.ensures.cost in
     record {
-      writes = Writes-is _ _ _ _ _ _ _ (Writes-all split c.if-rest-eq0.true c.fill_part.ensures.writes) (replicate-is _ _ _ (omega arith));
+      writes = Writes-is (Writes-all split c.if-rest-eq0.true c.fill_part.ensures.writes) (replicate-is _ (omega arith));
       cost = costs-within cost (omega arith) (omega arith);
       stores = omega arith;
       loads = omega arith;
@@ -43,7 +43,7 @@ returns-then-rest-eq0 g c =
 pub fill_aligned-requires : goal.fill_aligned-requires
 fill_aligned-requires g c =
     let split = c.split_head.ensures.split in
-    record { window = HasWindow-kept _ _ _ _ (HasWindow-behind split c.requires) c.fill_part.ensures.writes.elements; edge = split.edge (omega arith) }
+    record { window = HasWindow-kept _ (HasWindow-behind split c.requires) c.fill_part.ensures.writes.elements; edge = split.edge (omega arith) }
 
 pub returns : goal.returns
 returns g c =

@@ -9,7 +9,7 @@ use Rattle.bitvec_words.proofs.SplitLemmas.{HasPart-is, HasWindow-behind, HasWin
 use Rattle.bitvec_words.proofs.filling.fill_aligned.Goals as goal
 
 pub split_tail-first-requires : goal.split_tail-first-requires
-split_tail-first-requires g c = record { edge = c.requires.edge; end = window-end _ _ c.args.window c.requires.window }
+split_tail-first-requires g c = record { edge = c.requires.edge; end = window-end c.requires.window }
 
 pub fill_whole-requires : goal.fill_whole-requires
 fill_whole-requires g c = HasWindow-front c.split_tail-first.ensures.split c.requires.window
@@ -19,7 +19,7 @@ returns-then-tail-eq0 g c =
     let split = c.split_tail-first.ensures.split in
     let cost = c.fill_whole.ensures.cost in
     record {
-      writes = Writes-is _ _ _ _ _ _ _ (Writes-all split (omega arith) c.fill_whole.ensures.writes) (replicate-is _ _ _ (omega arith));
+      writes = Writes-is (Writes-all split (omega arith) c.fill_whole.ensures.writes) (replicate-is _ (omega arith));
       cost = costs-within cost (omega arith) (omega arith);
       stores = omega arith;
       loads = omega arith;
@@ -28,7 +28,7 @@ returns-then-tail-eq0 g c =
 pub fill_part-requires : goal.fill_part-requires
 fill_part-requires g c =
     let told = c.split_tail-first.ensures in
-    HasPart-is (told.part c.if-tail-eq0.false) (HasWindow-kept _ _ _ _ (HasWindow-behind told.split c.requires.window) c.fill_whole.ensures.writes.elements)
+    HasPart-is (told.part c.if-tail-eq0.false) (HasWindow-kept _ (HasWindow-behind told.split c.requires.window) c.fill_whole.ensures.writes.elements)
 
 pub returns : goal.returns
 returns g c =

@@ -13,12 +13,12 @@ returns-then-window-eq0 g c =
     let none = c.if-window-eq0.true in
     let nothing = touched-none g.C.Elem.BitStore.BITS c.args.window.start in
     record {
-      writes = Writes-is _ _ _ _ _ _ _ (Writes-empty _ _ _ _ _ c.requires none refl) (ap (map not) (sym (list-empty _ _ _ _ none)));
+      writes = Writes-is (Writes-empty _ _ c.requires none refl) (ap (map not) (sym (list-empty _ _ _ _ none)));
       cost = rw none (record { borrow = refl; loads = omega arith; stores = omega arith });
     }
 
 pub split_head-requires : goal.split_head-requires
-split_head-requires g c = record { some = omega arith; end = window-end _ _ c.args.window c.requires }
+split_head-requires g c = record { some = omega arith; end = window-end c.requires }
 
 pub invert_part-requires : goal.invert_part-requires
 invert_part-requires g c = HasPart-is c.split_head.ensures.part (HasWindow-front c.split_head.ensures.split c.requires)
@@ -33,7 +33,7 @@ returns-then-rest-eq0 g c =
 pub invert_aligned-requires-2 : goal.invert_aligned-requires-2
 invert_aligned-requires-2 g c =
     let split = c.split_head.ensures.split in
-    record { window = HasWindow-kept _ _ _ _ (HasWindow-behind split c.requires) c.invert_part.ensures.writes.elements; edge = split.edge (omega arith) }
+    record { window = HasWindow-kept _ (HasWindow-behind split c.requires) c.invert_part.ensures.writes.elements; edge = split.edge (omega arith) }
 
 pub returns : goal.returns
 returns g c =

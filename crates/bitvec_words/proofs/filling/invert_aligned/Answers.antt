@@ -6,7 +6,7 @@ use Rattle.bitvec_words.proofs.SplitLemmas.{HasPart-is, HasWindow-behind, HasWin
 use Rattle.bitvec_words.proofs.filling.invert_aligned.Goals as goal
 
 pub split_tail-first-requires : goal.split_tail-first-requires
-split_tail-first-requires g c = record { edge = c.requires.edge; end = window-end _ _ c.args.window c.requires.window }
+split_tail-first-requires g c = record { edge = c.requires.edge; end = window-end c.requires.window }
 
 pub invert_whole-requires : goal.invert_whole-requires
 invert_whole-requires g c = HasWindow-front c.split_tail-first.ensures.split c.requires.window
@@ -19,7 +19,7 @@ returns-then-tail-eq0 g c =
 pub invert_part-requires : goal.invert_part-requires
 invert_part-requires g c =
     let told = c.split_tail-first.ensures in
-    HasPart-is (told.part c.if-tail-eq0.false) (HasWindow-kept _ _ _ _ (HasWindow-behind told.split c.requires.window) c.invert_whole.ensures.writes.elements)
+    HasPart-is (told.part c.if-tail-eq0.false) (HasWindow-kept _ (HasWindow-behind told.split c.requires.window) c.invert_whole.ensures.writes.elements)
 
 pub returns : goal.returns
 returns g c =

@@ -9,7 +9,7 @@ use Rattle.bitvec_words.proofs.filling.store_whole.Goals as goal
 
 pub loop-step-init : goal.loop-step-init
 loop-step-init g c = record {
-  writes = λ bit is. Writes-none_filled _ _ _ _ _ bit c.requires;
+  writes = λ bit is. Writes-none_filled _ _ bit c.requires;
   elements = search rules;
   cost = search rules;
 }
@@ -28,7 +28,7 @@ loop-step-preserved g c =
     let width = g.met.C.Elem.BitStore.width_law in
     record {
       writes = λ bit is. rw (c.store.ensures.numbers, is)
-          (Writes-filled _ _ (g.met.O.BitOrder.permutes _ width) _ _ _ _ _ bit (width_some _ width) c.requires c.loop-step-test.true (inv.writes bit is));
+          (Writes-filled (g.met.O.BitOrder.permutes _ width) _ _ _ _ _ bit (width_some _ width) c.requires c.loop-step-test.true (inv.writes bit is));
       elements = rw c.store.ensures.numbers (length-set _ _ _ ∙ inv.elements);
       cost = search rules;
     }

@@ -10,10 +10,10 @@ use Rattle.bitvec_words.proofs.fronts.bits_load_front.Goals as goal
 pub split_head-requires : goal.split_head-requires
 split_head-requires g c =
     let some = c.requires.some in
-    rw c.front_window.ensures (record { some = omega arith; end = window-end _ _ _ (HasWindow-first_bits _ _ c.args.window _ refl c.requires.window) })
+    rw c.front_window.ensures (record { some = omega arith; end = window-end (HasWindow-first_bits refl c.requires.window) })
 
 pub load-element-requires : goal.load-element-requires
-load-element-requires g c = (HasPart-is c.split_head.ensures.part (HasWindow-front c.split_head.ensures.split (HasWindow-first_bits _ _ c.args.window _ c.front_window.ensures c.requires.window))).element
+load-element-requires g c = (HasPart-is c.split_head.ensures.part (HasWindow-front c.split_head.ensures.split (HasWindow-first_bits c.front_window.ensures c.requires.window))).element
 
 pub gathered-word-requires : goal.gathered-word-requires
 gathered-word-requires g c =

@@ -8,5 +8,5 @@ use Rattle.bitvec_words.proofs.fronts.bits_lowest_first.Goals as goal
 pub returns : goal.returns
 returns g c =
     c.gathered.ensures
-    ∙ ap (padded 64) (range-element 64 g.O.BitOrder.at c.args.word 64 refl)
-    ∙ padded-all 64 _ (length-element_bits 64 g.O.BitOrder.at c.args.word)
+    ∙ ap (padded 64) (range-element {b = 64} g.O.BitOrder.at c.args.word {n = 64} refl)
+    ∙ padded-all (length-element_bits 64 g.O.BitOrder.at c.args.word)

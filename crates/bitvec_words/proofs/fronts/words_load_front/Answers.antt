@@ -14,7 +14,7 @@ use Rattle.bitvec_words.proofs.fronts.words_load_front.Goals as goal
 pub load_elements-word-requires : goal.load_elements-word-requires
 load_elements-word-requires g c =
     let narrow : g.C.Elem.BitStore.BITS ≤ 64 = omega arith in
-    rw c.BITS-bits.ensures (record { window = HasWindow-word _ _ c.args.window g.met.C.Elem.BitStore.width_law narrow c.if-window-ge-WORD_BITS.true (rw c.BITS-bits.ensures at c.if-window-bits-eq0.true) c.requires.window; narrow = narrow })
+    rw c.BITS-bits.ensures (record { window = HasWindow-word g.met.C.Elem.BitStore.width_law narrow c.if-window-ge-WORD_BITS.true (rw c.BITS-bits.ensures at c.if-window-bits-eq0.true) c.requires.window; narrow = narrow })
 
 pub returns-then-window-bits-eq0 : goal.returns-then-window-bits-eq0
 returns-then-window-bits-eq0 g c =
@@ -31,10 +31,10 @@ returns-then-window-bits-eq0 g c =
 pub split_head-requires : goal.split_head-requires
 split_head-requires g c =
     let some = c.requires.some in
-    rw c.front_window.ensures (record { some = omega arith; end = window-end _ _ _ (HasWindow-first_bits _ _ c.args.window _ refl c.requires.window) })
+    rw c.front_window.ensures (record { some = omega arith; end = window-end (HasWindow-first_bits refl c.requires.window) })
 
 pub load-element-requires : goal.load-element-requires
-load-element-requires g c = (HasPart-is c.split_head.ensures.part (HasWindow-front c.split_head.ensures.split (HasWindow-first_bits _ _ c.args.window _ c.front_window.ensures c.requires.window))).element
+load-element-requires g c = (HasPart-is c.split_head.ensures.part (HasWindow-front c.split_head.ensures.split (HasWindow-first_bits c.front_window.ensures c.requires.window))).element
 
 pub len-requires : goal.len-requires
 len-requires g c = let part = c.split_head.ensures.part in omega arith

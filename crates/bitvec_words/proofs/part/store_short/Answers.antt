@@ -12,7 +12,7 @@ use Rattle.bitvec_words.proofs.part.store_short.Goals as goal
 pub returns-then-window-eq0-clause-writes : goal.returns-then-window-eq0-clause-writes
 returns-then-window-eq0-clause-writes g c =
     let none = c.if-window-eq0.true in
-    Writes-is _ _ _ _ _ _ _ (Writes-empty _ g.O.BitOrder.at _ _ c.args.window c.requires.window none refl) (ap (λ (n : ℕ). take n (element_bits g.C.Elem.BitStore.BITS g.O.BitOrder.at (g.C.Elem.BitStore.value c.args.element))) (sym none))
+    Writes-is (Writes-empty g.O.BitOrder.at _ c.requires.window none refl) (ap (λ (n : ℕ). take n (element_bits g.C.Elem.BitStore.BITS g.O.BitOrder.at (g.C.Elem.BitStore.value c.args.element))) (sym none))
 
 pub returns-then-count-window-clause-writes : goal.returns-then-count-window-clause-writes
 returns-then-count-window-clause-writes g c =

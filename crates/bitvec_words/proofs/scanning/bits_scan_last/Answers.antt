@@ -14,7 +14,7 @@ returns-then-window-eq0-clause-value g c =
     sym (ap (λ (l : List Bool). last_place c.args.want l) (list-empty _ _ _ _ c.if-window-eq0.true) ∙ last_place-nil c.args.want)
 
 pub split_head-requires : goal.split_head-requires
-split_head-requires g c = record { some = omega arith; end = window-end _ _ c.args.window c.requires }
+split_head-requires g c = record { some = omega arith; end = window-end c.requires }
 
 pub last_in_part-requires : goal.last_in_part-requires
 last_in_part-requires g c = HasPart-is c.split_head.ensures.part (HasWindow-front c.split_head.ensures.split c.requires)
@@ -22,7 +22,7 @@ last_in_part-requires g c = HasPart-is c.split_head.ensures.part (HasWindow-fron
 pub returns-then-rest-eq0 : goal.returns-then-rest-eq0
 returns-then-rest-eq0 g c =
     let value = c.last_in_part.ensures.value ∙ ap (last_place c.args.want) (list-all c.split_head.ensures.split c.if-rest-eq0.true g.O.BitOrder.at _) in
-    let some = last_loads-some g.C.Elem.BitStore.BITS c.args.window _ (omega arith) (last-inside _ g.O.BitOrder.at _ c.args.window c.args.want _ c.requires value) in
+    let some = last_loads-some g.C.Elem.BitStore.BITS c.args.window _ (omega arith) (last-inside g.O.BitOrder.at c.args.want c.requires value) in
     record { value = value; reads = reads-most (reads-exact c.last_in_part.ensures.reads) some }
 
 pub last_aligned-requires : goal.last_aligned-requires
@@ -47,7 +47,7 @@ pub returns : goal.returns
 returns g c =
     let split = c.split_head.ensures.split in
     let here = rw c.in_default.ensures.reads.numbers at c.last_in_part-2.ensures in
-    let inside = last-inside _ g.O.BitOrder.at _ _ c.args.want _ (HasWindow-front split c.requires) here.value in
+    let inside = last-inside g.O.BitOrder.at c.args.want (HasWindow-front split c.requires) here.value in
     let most = last-loads_front split (width_some _ g.met.C.Elem.BitStore.width_law) _ inside in
     let some = last_loads-some g.C.Elem.BitStore.BITS (part_window g.C.Elem.BitStore.BITS c.split_head.result.0) _ (omega arith) inside in
     record {

@@ -7,4 +7,4 @@ pub first_in_element-requires : goal.first_in_element-requires
 first_in_element-requires g c = record { order = omega arith; bound = omega arith }
 
 pub returns : goal.returns
-returns g c = c.first_in_element.ensures ∙ ap (first_place c.args.want) (range-element g.T.BitStore.BITS g.O.BitOrder.at _ _ c.BITS.ensures)
+returns g c = c.first_in_element.ensures ∙ ap (first_place c.args.want) (range-element g.O.BitOrder.at _ c.BITS.ensures)

@@ -8,7 +8,7 @@ use Rattle.bitvec_words.proofs.SplitLemmas.{HasPart-is, HasWindow-behind, HasWin
 use Rattle.bitvec_words.proofs.scanning.last_aligned.Goals as goal
 
 pub split_tail-first-requires : goal.split_tail-first-requires
-split_tail-first-requires g c = record { edge = c.requires.edge; end = window-end _ _ c.args.window c.requires.window }
+split_tail-first-requires g c = record { edge = c.requires.edge; end = window-end c.requires.window }
 
 pub last_whole-requires : goal.last_whole-requires
 last_whole-requires g c = HasWindow-front c.split_tail-first.ensures.split c.requires.window
@@ -35,7 +35,7 @@ overflow_add-result g c =
 pub returns-in-Some : goal.returns-in-Some
 returns-in-Some g c =
     let found = split-last c.split_tail-first.ensures.split g.O.BitOrder.at c.requires.window c.args.want _ c.in-Some.ensures.value in
-    let inside = last-inside _ g.O.BitOrder.at _ c.args.window c.args.want _ c.requires.window found in
+    let inside = last-inside g.O.BitOrder.at c.args.want c.requires.window found in
     let some = last_loads-some g.C.Elem.BitStore.BITS c.args.window _ (omega (arith, inside _ refl)) inside in
     rw c.BITS.ensures (record { value = found; reads = reads-most (reads-exact c.in-Some.ensures.reads) some })
 
@@ -46,7 +46,7 @@ pub returns : goal.returns
 returns g c =
     let told = c.split_tail-first.ensures in
     let here = rw c.in_default.ensures.reads.numbers at c.last_whole-2.ensures in
-    let most = last-loads_front told.split (width_some _ g.met.C.Elem.BitStore.width_law) _ (last-inside _ g.O.BitOrder.at _ _ c.args.want _ (HasWindow-front told.split c.requires.window) here.value) in
+    let most = last-loads_front told.split (width_some _ g.met.C.Elem.BitStore.width_law) _ (last-inside g.O.BitOrder.at c.args.want (HasWindow-front told.split c.requires.window) here.value) in
     let part = touched-part (told.part c.if-tail-eq0.false) in
     record {
       value = split-last_front told.split g.O.BitOrder.at c.requires.window c.args.want _ c.in_default.ensures.value here.value;

@@ -31,7 +31,7 @@ pub returns-in_err-found : goal.returns-in_err-found
 returns-in_err-found g c =
     let b = g.C.Elem.BitStore.BITS in
     let at = g.O.BitOrder.at in
-    let none = c.in_err-found.ensures ∙ ap (λ (l : List Bool). last_place c.args.want l) (range-element b at _ _ c.BITS-bits.ensures) in
+    let none = c.in_err-found.ensures ∙ ap (λ (l : List Bool). last_place c.args.want l) (range-element at _ c.BITS-bits.ensures) in
     absurd (last-must b at (g.met.O.BitOrder.permutes _ g.met.C.Elem.BitStore.width_law) _ _ _ c.args.want (c.to_u128.ensures.number ∙ c.xor.ensures) c.if-to_u128-ne0.true c.load-element.ensures.in_range c.filled-lacking.ensures none)
 
 pub overflow_add-result : goal.overflow_add-result
@@ -39,9 +39,9 @@ overflow_add-result g c =
     let b = g.C.Elem.BitStore.BITS in
     let at = g.O.BitOrder.at in
     let inv = c.loop-step.invariant in
-    let here = c.in_ok-found.ensures ∙ ap (λ (l : List Bool). last_place c.args.want l) (range-element b at _ _ c.BITS-bits.ensures) in
+    let here = c.in_ok-found.ensures ∙ ap (λ (l : List Bool). last_place c.args.want l) (range-element at _ c.BITS-bits.ensures) in
     let found = last-element_has b at _ _ _ (c.loop-step.step - 1) _ c.args.want (width_some _ g.met.C.Elem.BitStore.width_law) c.requires (omega arith) (rw inv.reads.numbers at c.load-element.ensures.value) _ (omega arith) inv.none _ here in
-    let below = last-inside b at _ _ c.args.want _ c.requires found _ refl in
+    let below = last-inside at c.args.want c.requires found _ refl in
     rw c.BITS-bits.ensures (omega arith)
 
 pub returns-then-to_u128-ne0 : goal.returns-then-to_u128-ne0
@@ -51,7 +51,7 @@ returns-then-to_u128-ne0 g c =
     let inv = c.loop-step.invariant in
     let load = c.load-element.ensures in
     let some = width_some _ g.met.C.Elem.BitStore.width_law in
-    let here = c.in_ok-found.ensures ∙ ap (λ (l : List Bool). last_place c.args.want l) (range-element b at _ _ c.BITS-bits.ensures) in
+    let here = c.in_ok-found.ensures ∙ ap (λ (l : List Bool). last_place c.args.want l) (range-element at _ c.BITS-bits.ensures) in
     let below = last-below b at _ _ c.args.want here in
     let upto : ℕ = c.loop-step.step - 1 + 1 in
     let inside : (i : ℕ) → Some ((c.loop-step.step - 1) * b + c.in_ok-found.found) ≡ Some i → i < upto * b = λ i is. (let same : (c.loop-step.step - 1) * b + c.in_ok-found.found ≡ i = cc in omega arith) in

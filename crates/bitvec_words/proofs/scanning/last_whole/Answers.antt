@@ -77,7 +77,7 @@ returns g c =
     let split = elements-split b c.args.first c.args.count left some (omega arith) in
     let here = rw inv.reads.numbers at c.last_of_turn-2.ensures.value in
     let behind = touched-whole b (c.args.first + left) (c.args.count - left) some in
-    let loads = last-loads_front split some _ (last-inside b at _ _ c.args.want _ (HasWindow-front split c.requires) here) in
+    let loads = last-loads_front split some _ (last-inside at c.args.want (HasWindow-front split c.requires) here) in
     record {
       value = split-last_front split at c.requires c.args.want _ none here;
       reads = reads-both inv.reads c.last_of_turn-2.ensures.reads (omega arith);
@@ -92,5 +92,5 @@ overflow_add-result g c =
     let here = rw inv.reads.numbers at c.in-Some.ensures.value in
     let passed : ℕ = c.args.count % 4 + (c.loop-step.step - 1) * 4 in
     let found = last-turn_has b at _ c.args.first c.args.count passed 4 (c.args.count % 4 + c.loop-step.step * 4) c.args.want some c.requires (omega arith) (omega arith) inv.none _ here in
-    let below = last-inside b at _ _ c.args.want _ c.requires found _ refl in
+    let below = last-inside at c.args.want c.requires found _ refl in
     rw c.BITS.ensures (omega arith)

@@ -13,7 +13,7 @@ use Rattle.bitvec_words.proofs.scanning_words.first_in_rest.Goals as goal
 pub returns-then-bits-ge-WORD_BITS-clause-reads : goal.returns-then-bits-ge-WORD_BITS-clause-reads
 returns-then-bits-ge-WORD_BITS-clause-reads g c =
     let scan = c.first_whole.ensures in
-    reads-most scan.reads (first_loads-elements _ g.O.BitOrder.at _ c.args.first c.args.count c.args.want _ (width_some _ g.met.C.Elem.BitStore.width_law) c.requires scan.value)
+    reads-most scan.reads (first_loads-elements g.O.BitOrder.at c.args.first c.args.count c.args.want (width_some _ g.met.C.Elem.BitStore.width_law) c.requires scan.value)
 
 pub loop-step-init : goal.loop-step-init
 loop-step-init g c = record {
@@ -65,7 +65,7 @@ returns-in_err-found g c =
     let all : c.loop-step.step ≡ c.args.count / (64 / c.BITS-bits.result) = omega arith in
     let front = rw (all, c.BITS-bits.ensures) at c.loop-step.invariant in
     let rest = rw (c.BITS-bits.ensures, front.reads.numbers) at c.in_err-found.ensures in
-    let most = first_loads-elements b g.O.BitOrder.at _ _ _ c.args.want _ (width_some b g.met.C.Elem.BitStore.width_law) parts.rest rest.value in
+    let most = first_loads-elements g.O.BitOrder.at _ _ c.args.want (width_some b g.met.C.Elem.BitStore.width_law) parts.rest rest.value in
     rw c.from_residual.ensures
     (record {
       value = split-lacks parts.split g.O.BitOrder.at c.requires c.args.want front.none rest.value;
@@ -91,7 +91,7 @@ returns g c =
     let all : c.loop-step.step ≡ c.args.count / (64 / c.BITS-bits.result) = omega arith in
     let front = rw (all, c.BITS-bits.ensures) at c.loop-step.invariant in
     let rest = rw (c.BITS-bits.ensures, front.reads.numbers) at c.in_ok-found.ensures in
-    let most = first_loads-elements b g.O.BitOrder.at _ _ _ c.args.want _ (width_some b g.met.C.Elem.BitStore.width_law) parts.rest rest.value in
+    let most = first_loads-elements g.O.BitOrder.at _ _ c.args.want (width_some b g.met.C.Elem.BitStore.width_law) parts.rest rest.value in
     rw c.BITS-bits.ensures
     (record {
       value = rw (← bits) (split-behind parts.split g.O.BitOrder.at c.requires c.args.want _ front.none rest.value);

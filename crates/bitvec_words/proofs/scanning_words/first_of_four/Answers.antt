@@ -17,4 +17,4 @@ overflow_add-result g c =
     omega arith
 
 pub returns : goal.returns
-returns g c = first-behind c.args.want _ _ _ 128 _ c.in_default.ensures c.in_ok-found.ensures (length-two g.O.BitOrder.at c.args.one c.args.two) refl
+returns g c = first-behind c.args.want _ _ _ c.in_default.ensures c.in_ok-found.ensures (length-two g.O.BitOrder.at c.args.one c.args.two) refl

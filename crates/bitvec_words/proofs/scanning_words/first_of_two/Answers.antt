@@ -14,4 +14,4 @@ overflow_add-result g c =
     rw c.BITS.ensures (omega (arith, first-below g.T.BitStore.BITS g.O.BitOrder.at _ _ c.args.want c.in_ok-found.ensures))
 
 pub returns : goal.returns
-returns g c = rw c.BITS.ensures (first-behind c.args.want _ _ _ _ _ c.in_default.ensures c.in_ok-found.ensures (sym (length-element_bits _ g.O.BitOrder.at _)) refl)
+returns g c = rw c.BITS.ensures (first-behind c.args.want _ _ _ c.in_default.ensures c.in_ok-found.ensures (sym (length-element_bits _ g.O.BitOrder.at _)) refl)

@@ -6,7 +6,7 @@ use Rattle.bitvec_words.proofs.SplitLemmas.{HasPart-is, HasWindow-behind, HasWin
 use Rattle.bitvec_words.proofs.scanning_words.words_scan_first.Goals as goal
 
 pub split_head-requires : goal.split_head-requires
-split_head-requires g c = record { some = omega arith; end = window-end _ _ c.args.window c.requires }
+split_head-requires g c = record { some = omega arith; end = window-end c.requires }
 
 pub first_in_part-requires : goal.first_in_part-requires
 first_in_part-requires g c = HasPart-is c.split_head.ensures.part (HasWindow-front c.split_head.ensures.split c.requires)

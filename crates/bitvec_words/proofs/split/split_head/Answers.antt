@@ -5,7 +5,7 @@ use Rattle.bitvec_words.proofs.SplitLemmas.{head-part, head-split, head-within, 
 use Rattle.bitvec_words.proofs.split.split_head.Goals as goal
 
 pub first_part-head-requires : goal.first_part-head-requires
-first_part-head-requires g c = record { bits = width-some _ _ g.met.T.BitStore.width_law c.BITS.ensures; some = c.requires.some }
+first_part-head-requires g c = record { bits = width-some g.met.T.BitStore.width_law c.BITS.ensures; some = c.requires.some }
 
 pub len-requires : goal.len-requires
 len-requires g c =

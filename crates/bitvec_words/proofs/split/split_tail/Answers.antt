@@ -7,10 +7,10 @@ use Rattle.bitvec_words.proofs.SplitLemmas.{tail-split}
 use Rattle.bitvec_words.proofs.split.split_tail.Goals as goal
 
 pub whole_elements-first-requires : goal.whole_elements-first-requires
-whole_elements-first-requires g c = width-some _ _ g.met.T.BitStore.width_law c.BITS-bits.ensures
+whole_elements-first-requires g c = width-some g.met.T.BitStore.width_law c.BITS-bits.ensures
 
 pub tail_part-requires : goal.tail_part-requires
-tail_part-requires g c = record { bits = width-some _ _ g.met.T.BitStore.width_law c.BITS-bits.ensures; end = c.requires.end }
+tail_part-requires g c = record { bits = width-some g.met.T.BitStore.width_law c.BITS-bits.ensures; end = c.requires.end }
 
 pub returns : goal.returns
 returns g c =

@@ -7,7 +7,7 @@ use Rattle.bitvec_words.proofs.word_elements.load_elements.Goals as goal
 pub load_word-requires : goal.load_word-requires
 load_word-requires g c =
     let b = g.C.Elem.BitStore.BITS in
-    elements-inside b (g.C.CellsRead.numbers c.args.cells.now) c.args.first (64 / b) (width_some b g.met.C.Elem.BitStore.width_law) c.requires.window
+    elements-inside c.args.first (64 / b) (width_some b g.met.C.Elem.BitStore.width_law) c.requires.window
 
 pub returns-clause-value : goal.returns-clause-value
 returns-clause-value g c =

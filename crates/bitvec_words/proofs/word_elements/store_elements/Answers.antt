@@ -7,7 +7,7 @@ use Rattle.bitvec_words.proofs.word_elements.store_elements.Goals as goal
 pub store_word-requires : goal.store_word-requires
 store_word-requires g c =
     let b = g.C.Elem.BitStore.BITS in
-    elements-inside b (g.C.CellsRead.numbers c.args.cells.now) c.args.first (64 / b) (width_some b g.met.C.Elem.BitStore.width_law) c.requires.window
+    elements-inside c.args.first (64 / b) (width_some b g.met.C.Elem.BitStore.width_law) c.requires.window
 
 pub returns-clause-writes : goal.returns-clause-writes
 returns-clause-writes g c =

@@ -22,11 +22,11 @@ loop-rest-init g c =
     }
 
 pub split_head-requires : goal.split_head-requires
-split_head-requires g c = record { some = c.loop-rest-test.true; end = window-end _ _ c.loop-rest.rest (HasWindow-rest _ _ c.args.window _ c.requires.window c.loop-rest.invariant.walk) }
+split_head-requires g c = record { some = c.loop-rest-test.true; end = window-end (HasWindow-rest c.requires.window c.loop-rest.invariant.walk) }
 
 pub load-element-requires : goal.load-element-requires
 load-element-requires g c =
-    rw c.loop-rest.invariant.reads.numbers (HasPart-is c.split_head.ensures.part (HasWindow-front c.split_head.ensures.split (HasWindow-rest _ _ c.args.window _ c.requires.window c.loop-rest.invariant.walk))).element
+    rw c.loop-rest.invariant.reads.numbers (HasPart-is c.split_head.ensures.part (HasWindow-front c.split_head.ensures.split (HasWindow-rest c.requires.window c.loop-rest.invariant.walk))).element
 
 pub moved-word-requires : goal.moved-word-requires
 moved-word-requires g c =
@@ -43,10 +43,10 @@ loop-rest-preserved g c =
     let len = first-len g.C.Elem.BitStore.BITS rest some more in
     let moved = rw (c.len.ensures, head.is_first) at c.moved-word.ensures in
     let loaded = rw (head.is_first, inv.reads.numbers) at c.load-element.ensures.value in
-    let each = touched-next g.C.Elem.BitStore.BITS c.args.window rest (part.to - part.from) some more (omega arith) (omega arith) inv.walk in
+    let each = touched-next (part.to - part.from) some more (omega arith) (omega arith) inv.walk in
     rw (head.is_behind, head.is_first)
     (record {
-      walk = Walked-next _ _ _ _ some more refl inv.walk;
+      walk = Walked-next some more refl inv.walk;
       value = word-next _ _ _ _ _ _ _ _ _ _ some more c.requires.bound refl refl c.requires.window inv.walk loaded moved inv.value;
       reads = record { numbers = c.load-element.ensures.numbers ∙ inv.reads.numbers; borrow = c.load-element.ensures.borrow ∙ inv.reads.borrow; loads = omega arith; stores = c.load-element.ensures.stores ∙ inv.reads.stores };
     })

@@ -14,12 +14,12 @@ loop-rest-init g c =
     let none : c.args.window.start - c.args.window.start ≡ 0 = omega arith in
     record {
       walk = Walked-start _ _;
-      writes = Writes-is _ _ _ _ _ _ _ (Writes-none_passed _ _ _ _ c.requires.window) (ap (λ (n : ℕ). take n (element_bits 64 g.O.BitOrder.at c.args.word)) (sym none));
+      writes = Writes-is (Writes-none_passed c.requires.window) (ap (λ (n : ℕ). take n (element_bits 64 g.O.BitOrder.at c.args.word)) (sym none));
       cost = search rules;
     }
 
 pub split_head-requires : goal.split_head-requires
-split_head-requires g c = record { some = c.loop-rest-test.true; end = window-end _ _ c.loop-rest.rest (HasWindow-rest _ _ c.args.window _ c.requires.window c.loop-rest.invariant.walk) }
+split_head-requires g c = record { some = c.loop-rest-test.true; end = window-end (HasWindow-rest c.requires.window c.loop-rest.invariant.walk) }
 
 pub moved-element-requires : goal.moved-element-requires
 moved-element-requires g c =
@@ -27,7 +27,7 @@ moved-element-requires g c =
 
 pub store_part-requires : goal.store_part-requires
 store_part-requires g c =
-    HasPart-is c.split_head.ensures.part (HasWindow-front c.split_head.ensures.split (HasWindow-kept _ _ _ _ (HasWindow-rest _ _ c.args.window _ c.requires.window c.loop-rest.invariant.walk) c.loop-rest.invariant.writes.elements))
+    HasPart-is c.split_head.ensures.part (HasWindow-front c.split_head.ensures.split (HasWindow-kept _ (HasWindow-rest c.requires.window c.loop-rest.invariant.walk) c.loop-rest.invariant.writes.elements))
 
 pub loop-rest-preserved : goal.loop-rest-preserved
 loop-rest-preserved g c =
@@ -40,14 +40,14 @@ loop-rest-preserved g c =
     let some = width_some _ g.met.C.Elem.BitStore.width_law in
     let part = first_part_of b rest in
     let len = first-len b rest some more in
-    let edges = edge_loads-next b window rest (part.to - part.from) some more refl inv.walk in
-    let each = touched-next b window rest (part.to - part.from) some more (omega arith) (omega arith) inv.walk in
+    let edges = edge_loads-next (part.to - part.from) some more refl inv.walk in
+    let each = touched-next (part.to - part.from) some more (omega arith) (omega arith) inv.walk in
     let moved = rw (c.len.ensures, head.is_first) at c.moved-element.ensures in
     let ensures = rw head.is_first at c.store_part.ensures in
     rw (head.is_behind, head.is_first)
     (record {
-      walk = Walked-next _ _ _ _ some more refl inv.walk;
-      writes = Writes-next_field _ _ _ _ _ _ _ _ _ _ _ some more c.requires.bound refl refl c.requires.window inv.walk moved inv.writes ensures.writes;
+      walk = Walked-next some more refl inv.walk;
+      writes = Writes-next_field _ _ some more c.requires.bound refl refl c.requires.window inv.walk moved inv.writes ensures.writes;
       cost = record { borrow = ensures.cost.borrow ∙ inv.cost.borrow; loads = omega arith; stores = omega arith };
     })
 

@@ -18,4 +18,4 @@ loop-index-preserved g c =
 pub returns : goal.returns
 returns g c =
     let all : c.loop-index.index ≡ g.R.BitStore.BITS = omega arith in
-    first-one_nowhere g.R.BitStore.BITS g.Self.BitOrder.at _ c.loop-index.index all c.loop-index.invariant
+    first-one_nowhere g.Self.BitOrder.at _ all c.loop-index.invariant

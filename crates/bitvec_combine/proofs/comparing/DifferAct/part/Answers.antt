@@ -16,4 +16,4 @@ returns g c =
     let all = length-element_bits b g.O.BitOrder.at (g.T.BitStore.value c.args.other) in
     let number = rw (c.xor.ensures, c.load-element.ensures.value, c.mask.ensures) at c.and-differing.ensures in
     finds-one _ _ _ _ _ _ _ _ _ _ width (omega arith) (omega arith) (length-slice_range _ _ _ (omega arith)) (search rules) c.or-self.ensures
-    (rw (number, list-part _ _ _ _ has) (same-between b _ (g.met.O.BitOrder.permutes _ width) _ _ _ _ has.order has.bound))
+    (rw (number, list-part _ has) (same-between b _ (g.met.O.BitOrder.permutes _ width) _ _ _ _ has.order has.bound))

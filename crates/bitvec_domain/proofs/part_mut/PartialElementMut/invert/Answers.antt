@@ -10,5 +10,5 @@ use Rattle.bitvec_domain.proofs.part_mut.PartialElementMut.invert.Goals as goal
 pub returns : goal.returns
 returns g c =
     let p = c.args.self.now in
-    writes_part p _ _ refl refl refl (length-map (seen_part_mut p).bits not ∙ length-part _ _ _ _ _ p.inside)
+    writes_part p refl refl refl (length-map (seen_part_mut p).bits not ∙ length-part _ _ _ _ _ p.inside)
     (rw (c.xor-self.ensures, p.masked) (element-xor_mask _ _ (g.met.O.BitOrder.permutes _ g.met.T.BitStore.width_law) _ p.head p.tail p.ordered p.inside))

@@ -7,6 +7,6 @@ pub returns : goal.returns
 returns g c =
     let p = c.args.self.now in
     let t = g.T.BitStore in
-    writes_part p _ _ refl refl refl (length-part t.BITS g.O.BitOrder.at (t.value c.args.value) p.head p.tail p.inside)
+    writes_part p refl refl refl (length-part t.BITS g.O.BitOrder.at (t.value c.args.value) p.head p.tail p.inside)
     (rw (c.or-self.ensures, c.and-outside.ensures, c.and.ensures, c.not.ensures, p.masked)
     (element-combine _ _ (g.met.O.BitOrder.permutes _ g.met.T.BitStore.width_law) _ _ p.head p.tail p.ordered p.inside))

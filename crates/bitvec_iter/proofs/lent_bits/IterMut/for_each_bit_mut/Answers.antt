@@ -23,7 +23,7 @@ module _ {T : Type 0} (b : ℕ) (at : ℕ → ℕ → ℕ) (value : T → ℕ) (
   part-is = ap (λ (n : ℕ). record { start = head + min front back; len = n }) (omega arith)
 
   part-bits : list_in b at (map value elements) part ≡ bits_to_come walk
-  part-bits = ap (list_in b at (map value elements)) part-is ∙ list-range b at (map value elements) walk.view.window (start_of walk) back (has_window b at value elements head len inside bounded) (omega arith) bound
+  part-bits = ap (list_in b at (map value elements)) part-is ∙ list-range at (start_of walk) back (has_window b at value elements head len inside bounded) (omega arith) bound
 
   module _ (xs : List T) (new : List Bool) (wrote : Writes b at (map value elements) (map value xs) part new) where
     abbrev after : BitsLeft T
@@ -33,11 +33,11 @@ module _ {T : Type 0} (b : ℕ) (at : ℕ → ℕ → ℕ) (value : T → ℕ) (
     all-bits =
         let has = has_window b at value elements head len inside bounded in
         let there = subst (λ (w : Window). Writes b at (map value elements) (map value xs) w new) part-is wrote in
-        Writes-holds b at (map value elements) (map value xs) walk.view.window _ has (Writes-range b at (map value elements) (map value xs) walk.view.window (start_of walk) back new has (omega arith) bound there)
+        Writes-holds has (Writes-range (start_of walk) back has (omega arith) bound there)
 
     in-place : bits_in_place walk after ≡ new
     in-place =
-        let long = length-list b at (map value elements) walk.view.window (has_window b at value elements head len inside bounded) in
+        let long = length-list at (has_window b at value elements head len inside bounded) in
         let end : back ≡ start_of walk + length new = omega (arith, wrote.long) in
         ap (λ (l : List Bool). slice_range l (start_of walk) back) all-bits
         ∙ ap (λ (e : ℕ). slice_range (write_at walk.view.bits (start_of walk) new) (start_of walk) e) end

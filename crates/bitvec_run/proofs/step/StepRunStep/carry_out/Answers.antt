@@ -9,7 +9,7 @@ use Rattle.bitvec_run.proofs.step.StepRunStep.carry_out.Goals as goal
 pub returns-in-Some : goal.returns-in-Some
 returns-in-Some g c =
     let right = list_in g.C.Elem.BitStore.BITS g.O.BitOrder.at (g.D.CellsRead.numbers c.args.right.now) c.args.source in
-    let refusal = sym (c.step_refusal.ensures.refusal right (length-list _ _ _ _ c.requires.right_window)) ∙ c.in-Some.is in
+    let refusal = sym (c.step_refusal.ensures.refusal right (length-list _ c.requires.right_window)) ∙ c.in-Some.is in
     rw (outcome-is (step_row right c.args.window.len c.args.self) (Some c.in-Some.refusal) refusal) (record {
       left = Answers-follow g.C.CellsRead _ _ _ _ c.args.window _ _ _ c.requires.window (record { reply = refl; list = refl; reads = record { numbers = refl; borrow = refl; loads = omega arith; stores = refl } });
       right = record { numbers = refl; borrow = refl; loads = omega arith; stores = refl };
@@ -18,7 +18,7 @@ returns-in-Some g c =
 pub returns-in-None : goal.returns-in-None
 returns-in-None g c =
     let right = list_in g.C.Elem.BitStore.BITS g.O.BitOrder.at (g.D.CellsRead.numbers c.args.right.now) c.args.source in
-    let refusal = sym (c.step_refusal.ensures.refusal right (length-list _ _ _ _ c.requires.right_window)) ∙ c.in-None.is in
+    let refusal = sym (c.step_refusal.ensures.refusal right (length-list _ c.requires.right_window)) ∙ c.in-None.is in
     let fits = c.in-None.ensures.fits in
     let did = rw c.range-target.ensures at c.carry_out.ensures in
     rw (step-does right c.args.window.len c.args.self refusal)
