@@ -33,7 +33,7 @@ use Rattle.bitvec_in_place.specs.ChangesLaws.{changes-none, changes-then, number
 use Rattle.bitvec.specs.FoundLaws.{all_in-false, all_in-none, all_in-true, any_in-false, any_in-true, first_in-absent, first_in-before, first_in-below, first_in-bit, last_in-absent, last_in-after, last_in-below, last_in-bit, number-at_one, number-before_one, number-without_one}
 use Rattle.bitvec.specs.NumberSidesLaws.{get-high_number, get-low_number, number-high_sides, number-high_stored, number-low_sides, number-low_stored, number-none, number-one, number-ones, number-zeros}
 use Rattle.bitvec.specs.OwnViewsLaws.{bits-all, bits-front, bits-range}
-use Rattle.bitvec.specs.ListNumbersLaws.{bits_in-rest, bits_in-set, range-rest, segment-front, segment-push}
+use Rattle.bitvec.specs.ListNumbersLaws.{bits_in-rest, bits_in-set, left-fits, left-number, left-told, range-rest, segment-front, segment-push, written-first}
 use Rattle.bitvec.specs.FlagLaws.{flag-back, flag-below, flag-fits, flag-same, flag-told}
 use Rattle.bitvec.specs.PlacedLaws.{length-places, length-zero_places, nth-below, nth-bit, nth-count, nth-place, nth-rank, places-and, places-and_not, places-append, places-ascend, places-below, places-bit, places-cleared, places-cons, places-count, places-flipped, places-have, places-nil, places-none, places-ones, places-or, places-ordered, places-set, places-xor, places-zeros}
 use Rattle.bitvec.specs.RowsLaws.{remainder-whole, row-first, row-rest}
@@ -146,8 +146,9 @@ pub ruleset summed = (lengths, kept_lengths, number-high_sides, number-low_sides
 -- This set closes goals about numbers from the order's own end, `le` under `Lsb0`, `be` under `Msb0`, of views and of arrays.
 pub ruleset seamless = (lengths, kept_lengths, loaded-seamless, stored-seamless, number-seamless, numbered-seamless, length-element_bits, length-slice_range, width_some)
 
--- This set closes goals about lists of bits as numbers: the bound, from one to the other and back, one bit more, and the rest of a list.
-pub ruleset segmented = (segment_number-below, segment-number, segment-told, segment-push, segment-front, bits_in-rest, range-rest, numbered-put, length-element_bits, width_some)
+-- This set closes goals about lists of bits as numbers: the bound, from one to the other and back, one bit more, the rest of a list and
+-- the number that it begins with, and a write at the first place.
+pub ruleset segmented = (segment_number-below, segment-number, segment-told, segment-push, segment-front, bits_in-rest, range-rest, left-told, left-number, left-fits, written-first, numbered-put, length-element_bits, width_some)
 
 -- This set closes goals about the first bits of an array with room for more: each, how many, and after an edit among them or behind.
 pub ruleset fronts = (lengths, kept_lengths, length-front, get-front, front-none, front-all, front-shorter, front-longer, front-last, front-range, front-bits, front-number, front-set_inside, front-set_behind, front-set_next, front-written, front-written_inside, front-written_behind, front-filled, front-grown, front-inserted, front-removed, length-inserted, length-removed, get-inserted_behind, get-removed_behind, width_some)

@@ -1,14 +1,20 @@
--- Lists of bits as numbers: of one bit more, of a front and the bit behind it; what is left of a list; a write at its first
--- place; and a bit set in a range.
-use Rattle.std.specs.Prelude.{◌≡◌, ℕ, ◌+◌, ◌-◌, ◌*◌, ◌<◌, ◌≤◌, if◌then◌else◌, Bool, false, true, List, [], ◌∷◌, ◌++◌, drop, length, refl, slice_index_or, slice_range, slice_set, take}
-use Rattle.std.proofs.Common.{arith, ◌∙◌, ap}
-use Rattle.std.proofs.lemmas.List.{take_more}
+-- Lists of bits as numbers: of one bit more, of a front and the bit behind it, of two that begin alike; what is left of a list,
+-- and the number that it begins with; a write at its first place; and a bit set in a range.
+use Rattle.std.specs.Prelude.{◌≡◌, ℕ, ◌+◌, ◌-◌, ◌*◌, ◌/◌, ◌^◌, ◌<◌, ◌≤◌, if◌then◌else◌, Bool, false, true, List, [], ◌∷◌, ◌++◌, drop, length, refl, slice_index_or, slice_range, slice_set, take}
+use Rattle.std.proofs.Common.{arith, sym, ◌∙◌, ap, length-take}
+use Rattle.std.proofs.Math.Nat.{mod-eq_of_lt}
+use Rattle.std.proofs.lemmas.List.{length-drop, take-append-drop, take-append-le, take_at, take_more}
+use Rattle.std.proofs.lemmas.Nat.{div-mul-add}
 use Rattle.std.proofs.lemmas.Slice.{between_to_end}
 use Rattle.bitvec_base.specs.Window.{write_at}
+use Rattle.bitvec_base.specs.WriteLaws.{length-slice_range}
+use Rattle.bitvec_segments.specs.NumberLaws.{segment-number, segment-told, segment_number-below}
 use Rattle.bitvec_segments.specs.PlainLaws.{append-highest}
-use Rattle.bitvec_segments.specs.Segments.{segment_number}
+use Rattle.bitvec_segments.specs.Segments.{segment_bits, segment_number}
+use Rattle.bitvec_segments.specs.StoreLaws.{length-segment_bits}
 use Rattle.bitvec_in_place.specs.FrontLaws.{range-set_inside}
-use Rattle.bitvec_in_place.specs.Ranges.{bits_in}
+use Rattle.bitvec_in_place.specs.Ranges.{bits_in, number_in}
+use Rattle.bitvec.specs.SeamlessLaws.{number-seamless}
 
 -- ---- the first bit the highest
 
@@ -25,6 +31,21 @@ segment-push list bit = let one = one_bit bit in append-highest list (bit ∷ []
 pub segment-front : (list : List Bool) (n : ℕ) → n < length list → segment_number true (take (n + 1) list) ≡ segment_number true (take n list) * 2 + (if slice_index_or list n false then 1 else 0)
 segment-front list n inside = ap (segment_number true) (take_more list n false inside) ∙ segment-push (take n list) (slice_index_or list n false)
 
+-- Of two lists with which one list begins, the first bit the highest, the shorter has the longer's number divided by two to the
+-- power of how many bits more the longer has.
+pub segment-begins : (short long xs ys : List Bool) → short ++ xs ≡ long ++ ys → length short ≤ length long → segment_number true short ≡ segment_number true long / 2 ^ (length long - length short)
+segment-begins short long xs ys same less =
+    let n : ℕ = length short in
+    let begins : short ≡ take n long =
+    sym (take_at short xs n refl) ∙ ap (λ (l : List Bool). take n l) same ∙ take-append-le n long ys less in
+    let rest : List Bool = drop n long in
+    let cut : short ++ rest ≡ long = ap (λ (l : List Bool). l ++ rest) begins ∙ take-append-drop n long in
+    let more : length rest ≡ length long - n = length-drop n long in
+    let small : segment_number true rest < 2 ^ (length long - n) = rw more at (segment_number-below true rest) in
+    sym (ap (λ (v : ℕ). v / 2 ^ (length long - n))
+    (ap (segment_number true) (sym cut) ∙ append-highest short rest ∙ ap (λ (k : ℕ). segment_number true short * 2 ^ k + segment_number true rest) more)
+    ∙ div-mul-add (segment_number true short) (2 ^ (length long - n)) (segment_number true rest) small)
+
 -- ---- what is left of a list
 
 -- A range that goes up to the end of a list is what is left of it from the range's start on.
@@ -35,6 +56,31 @@ range-rest list from to end = between_to_end list from to end
 pub bits_in-rest : (list : List Bool) (from to : ℕ) → length list ≤ to → bits_in list from to ≡ drop from list
 unfolding bits_in
 bits_in-rest list from to end = between_to_end list from to end
+
+first_left : (list : List Bool) (from n : ℕ) → slice_range list from (from + n) ≡ take n (drop from list)
+first_left list from n = let same : from + n - from ≡ n = omega arith in ap (λ (k : ℕ). take k (drop from list)) same
+
+-- The number of the `n` bits from a place on, from the order's own end, has the bits with which what is left of the list begins.
+pub left-told : (high : Bool) (b : ℕ) (list : List Bool) (from n : ℕ) → from + n ≤ length list → segment_bits high n (number_in high high b list from (from + n)) ≡ take n (drop from list)
+left-told high b list from n inside =
+    let long : length (slice_range list from (from + n)) ≡ n = length-slice_range list from (from + n) inside ∙ omega arith in
+    ap (segment_bits high n) (number-seamless high b list from (from + n))
+    ∙ ap (λ (k : ℕ). segment_bits high k (segment_number high (slice_range list from (from + n)))) (sym long)
+    ∙ segment-told high (slice_range list from (from + n)) ∙ first_left list from n
+
+-- Where what is left of a list begins with the `n` bits of a number below `2^n`, that is the number of the `n` bits from there on.
+pub left-number : (high : Bool) (b : ℕ) (list : List Bool) (from n v : ℕ) → v < 2 ^ n → take n (drop from list) ≡ segment_bits high n v → number_in high high b list from (from + n) ≡ v
+left-number high b list from n v small begins =
+    number-seamless high b list from (from + n) ∙ ap (segment_number high) (first_left list from n ∙ begins) ∙ segment-number high n v ∙ mod-eq_of_lt small
+
+-- Where what is left of a list begins with the bits of a number, they lie in the list.
+pub left-fits : (high : Bool) (list : List Bool) (from n v : ℕ) → 0 < n → take n (drop from list) ≡ segment_bits high n v → from + n ≤ length list
+left-fits high list from n v some begins =
+    let long = ap length begins in
+    let first = length-take n (drop from list) in
+    let rest = length-drop from list in
+    let bits = length-segment_bits high n v in
+    omega (arith, long, first, rest, bits)
 
 -- A list written at the first place has what was written, and then what stood behind it.
 pub written-first : {X : Type 0} (list new : List X) → write_at list 0 new ≡ new ++ drop (length new) list
