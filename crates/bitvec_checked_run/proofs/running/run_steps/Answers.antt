@@ -33,7 +33,7 @@ loop-index-preserved g c =
     let below : i < length steps = rw (length-map c.args.steps.now step_of) inside in
     let none : RawStep = record { from = 0; to = 0; first = 0; second = 0; third = 0; op = 0; bit = 0 } in
     let step = sym (get_or-map step_of c.args.steps.now i none (step_of none) inside) in
-    let did = rw (c.whole-source.ensures, inv.right, list-whole b place beside, c.step.ensures, step) at c.carry_out-reply.ensures.left in
+    let did = rw (c.whole-source.ensures, inv.right, list-whole b place beside, c.step-next.ensures, step) at c.carry_out-reply.ensures.left in
     let next = Ran-next g.C.CellsRead row b place g.O.SliceOrder.WORDS list steps i _ c.args.window _ _ _ _ _ c.requires.memories.has_window below inv.ran did in
     record {
       ran = record { replies = refl; writes = next.writes };
