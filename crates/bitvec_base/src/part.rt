@@ -3,6 +3,7 @@ ghost use Rattle.std.specs.Prelude.{◌≡◌, ◌+◌, ◌-◌, ◌/◌, ◌^�
 ghost use Rattle.bitvec_base.specs.Parts.{first_part_of, last_part_of, tail_part_of};
 
 use crate::Window;
+use bitvec_store::BitStore;
 
 /// A part of one element of a memory: the bits at its indices `from` up to, without, `to`.
 #[derive(Clone, Copy, PartialEq, Eq, Debug)]
@@ -80,5 +81,53 @@ pub fn tail_part(bits: usize, window: Window) -> Part
         element: window.start / bits + window.len / bits,
         from: 0,
         to: window.len % bits,
+    }
+}
+
+/// How many whole elements of type `T` that many bits make.
+#[inline(always)]
+pub fn elements_of<T: BitStore>(bits: usize) -> usize
+    ensures { result ≡ bits / T.BITS }
+{
+    bits / T::BITS as usize
+}
+
+impl Window {
+    /// The part of the window's first element that lies in the window. Condition: the window isn't empty.
+    #[inline(always)]
+    pub fn first_part<T: BitStore>(self) -> Part
+        requires { 0 < self.len }
+        ensures { result ≡ first_part_of T.BITS self }
+    {
+        first_part(T::BITS as usize, self)
+    }
+
+    /// The part of the window's last element that lies in the window. Condition: the window isn't empty, and its end is a
+    /// `usize`.
+    #[inline(always)]
+    pub fn last_part<T: BitStore>(self) -> Part
+        requires some { 0 < self.len }
+        requires end { self.start + self.len < 2 ^ 64 }
+        ensures { result ≡ last_part_of T.BITS self }
+    {
+        last_part(T::BITS as usize, self)
+    }
+
+    /// The whole elements of a window that begins where one does: the first of them, and how many they are.
+    #[inline(always)]
+    pub fn whole_elements<T: BitStore>(self) -> (usize, usize)
+        ensures { result ≡ (self.start / T.BITS, self.len / T.BITS) }
+    {
+        whole_elements(T::BITS as usize, self)
+    }
+
+    /// The part of such a window behind its whole elements, which is empty where the window ends with one. Condition: the
+    /// window's end is a `usize`.
+    #[inline(always)]
+    pub fn tail_part<T: BitStore>(self) -> Part
+        requires { self.start + self.len < 2 ^ 64 }
+        ensures { result ≡ tail_part_of T.BITS self }
+    {
+        tail_part(T::BITS as usize, self)
     }
 }

@@ -1,5 +1,7 @@
 //! A window: the bits of a memory that a call works on.
-ghost use Rattle.std.specs.Prelude.{◌≡◌, ◌+◌, ◌-◌, ◌≤◌, ◌<◌, ◌^◌, ◌↔◌, IsTrue};
+ghost use Rattle.std.specs.Prelude.{◌≡◌, ◌+◌, ◌-◌, ◌/◌, ◌%◌, ◌≤◌, ◌<◌, ◌^◌, ◌↔◌, IsTrue};
+
+use bitvec_store::BitStore;
 
 /// The most bits that a memory may have: `bitvec`'s `BitSlice::MAX_BITS`.
 pub const MAX_BITS: usize = usize::MAX / 8;
@@ -22,6 +24,22 @@ impl Window {
         ensures { IsTrue result ↔ IsWithin self bits }
     {
         self.start <= bits && self.len <= bits - self.start
+    }
+
+    /// The element of type `T` in which the window's first bit stands, from 0.
+    #[inline(always)]
+    pub fn element<T: BitStore>(self) -> usize
+        ensures { result ≡ self.start / T.BITS }
+    {
+        self.start / T::BITS as usize
+    }
+
+    /// The index of the window's first bit in that element.
+    #[inline(always)]
+    pub fn phase<T: BitStore>(self) -> usize
+        ensures { result ≡ self.start % T.BITS }
+    {
+        self.start % T::BITS as usize
     }
 
     /// The window without its first `count` bits. Condition: it has so many, and its end is a
