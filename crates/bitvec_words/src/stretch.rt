@@ -1,9 +1,9 @@
 //! Whole elements of one memory beside as many bits of another.
 ghost use Rattle.std.specs.Prelude.{◌≡◌, ◌+◌, ◌^◌, ◌<◌};
-ghost use Rattle.bitvec_words.specs.Moves.{stretch_part};
-ghost use Rattle.bitvec_words.specs.Moves.{stretch_of};
+ghost use Rattle.bitvec_words.specs.Moves.{stretch_of, stretch_part};
 
-use bitvec_base::Window;
+use bitvec_base::{Window, elements_of};
+use bitvec_store::BitStore;
 
 /// As many bits of two memories as `count` elements have: whole elements from `first` on in the one, and bits from the
 /// index `skip` of the element `source` on in the other, which may be the same one.
@@ -22,15 +22,14 @@ pub struct Stretch {
 impl Stretch {
     /// The whole elements of a window, and as many bits from another one's first bit on.
     #[inline(always)]
-    pub fn of(bits: usize, to: Window, from: Window) -> Stretch
-        requires { 0 < bits }
-        ensures { result ≡ stretch_of bits to from }
+    pub fn of<T: BitStore>(to: Window, from: Window) -> Stretch
+        ensures { result ≡ stretch_of T.BITS to from }
     {
         Stretch {
-            first: to.start / bits,
-            source: from.start / bits,
-            skip: from.start % bits,
-            count: to.len / bits,
+            first: to.element::<T>(),
+            source: from.element::<T>(),
+            skip: from.phase::<T>(),
+            count: elements_of::<T>(to.len),
         }
     }
 
