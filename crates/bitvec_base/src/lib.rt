@@ -16,6 +16,6 @@ pub use hi_lo::HiLo;
 pub use lsb0::Lsb0;
 pub use msb0::Msb0;
 pub use order::BitOrder;
-pub use part::{Part, elements_of, first_part, last_part, tail_part, whole_elements};
+pub use part::{Part, elements_of};
 pub use span_error::BitSpanError;
 pub use window::{MAX_BITS, Window};

@@ -26,64 +26,6 @@ impl Part {
     }
 }
 
-/// The part of a window's first element that lies in the window, where elements have `bits` bits.
-/// Condition: the window isn't empty.
-pub fn first_part(bits: usize, window: Window) -> Part
-    requires bits { 0 < bits }
-    requires some { 0 < window.len }
-    ensures { result ≡ first_part_of bits window }
-{
-    let from = window.start % bits;
-    let len = window.len.min(bits - from);
-    Part {
-        element: window.start / bits,
-        from,
-        to: from + len,
-    }
-}
-
-/// The part of a window's last element that lies in the window, where elements have `bits` bits.
-/// Condition: the window isn't empty, and its end is a `usize`.
-pub fn last_part(bits: usize, window: Window) -> Part
-    requires bits { 0 < bits }
-    requires some { 0 < window.len }
-    requires end { window.start + window.len < 2 ^ 64 }
-    ensures { result ≡ last_part_of bits window }
-{
-    let last = window.start + (window.len - 1);
-    let to = last % bits + 1;
-    Part {
-        element: last / bits,
-        from: to - window.len.min(to),
-        to,
-    }
-}
-
-/// The whole elements of a window that begins where one does, where elements have `bits` bits: the
-/// first of them, and how many they are.
-#[inline(always)]
-pub fn whole_elements(bits: usize, window: Window) -> (usize, usize)
-    requires { 0 < bits }
-    ensures { result ≡ (window.start / bits, window.len / bits) }
-{
-    (window.start / bits, window.len / bits)
-}
-
-/// The part of such a window behind its whole elements, which is empty where the window ends with
-/// one. Condition: the window's end is a `usize`.
-#[inline(always)]
-pub fn tail_part(bits: usize, window: Window) -> Part
-    requires bits { 0 < bits }
-    requires end { window.start + window.len < 2 ^ 64 }
-    ensures { result ≡ tail_part_of bits window }
-{
-    Part {
-        element: window.start / bits + window.len / bits,
-        from: 0,
-        to: window.len % bits,
-    }
-}
-
 /// How many whole elements of type `T` that many bits make.
 #[inline(always)]
 pub fn elements_of<T: BitStore>(bits: usize) -> usize
@@ -99,7 +41,13 @@ impl Window {
         requires { 0 < self.len }
         ensures { result ≡ first_part_of T.BITS self }
     {
-        first_part(T::BITS as usize, self)
+        let from = self.phase::<T>();
+        let len = self.len.min(T::BITS as usize - from);
+        Part {
+            element: self.element::<T>(),
+            from,
+            to: from + len,
+        }
     }
 
     /// The part of the window's last element that lies in the window. Condition: the window isn't empty, and its end is a
@@ -110,7 +58,14 @@ impl Window {
         requires end { self.start + self.len < 2 ^ 64 }
         ensures { result ≡ last_part_of T.BITS self }
     {
-        last_part(T::BITS as usize, self)
+        let bits = T::BITS as usize;
+        let last = self.start + (self.len - 1);
+        let to = last % bits + 1;
+        Part {
+            element: last / bits,
+            from: to - self.len.min(to),
+            to,
+        }
     }
 
     /// The whole elements of a window that begins where one does: the first of them, and how many they are.
@@ -118,7 +73,7 @@ impl Window {
     pub fn whole_elements<T: BitStore>(self) -> (usize, usize)
         ensures { result ≡ (self.start / T.BITS, self.len / T.BITS) }
     {
-        whole_elements(T::BITS as usize, self)
+        (self.element::<T>(), elements_of::<T>(self.len))
     }
 
     /// The part of such a window behind its whole elements, which is empty where the window ends with one. Condition: the
@@ -128,6 +83,10 @@ impl Window {
         requires { self.start + self.len < 2 ^ 64 }
         ensures { result ≡ tail_part_of T.BITS self }
     {
-        tail_part(T::BITS as usize, self)
+        Part {
+            element: self.element::<T>() + elements_of::<T>(self.len),
+            from: 0,
+            to: self.len % T::BITS as usize,
+        }
     }
 }

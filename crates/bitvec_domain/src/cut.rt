@@ -3,7 +3,7 @@ ghost use Rattle.std.specs.Prelude.{◌≡◌, ◌+◌, ◌^◌, ◌<◌, length
 ghost use Rattle.bitvec_base.specs.Memory.{HasWindow};
 ghost use Rattle.bitvec_domain.specs.Cuts.{IsCutWithin, cut_across, cut_of};
 
-use bitvec_base::{Part, Window, first_part, last_part};
+use bitvec_base::{Part, Window};
 use bitvec_store::BitStore;
 
 /// A window of a memory, cut at the edges of its elements.
@@ -32,18 +32,16 @@ impl Cut {
         ensures value { result ≡ cut_of T.BITS window }
         ensures within { IsCutWithin T.BITS (length _elements.now) result }
     {
-        Cut::of(T::BITS as usize, window)
+        Cut::of::<T>(window)
     }
 
-    /// The cut of a window of a memory whose elements have that many bits. Condition: the window's
-    /// end fits a `usize`.
-    pub fn of(bits: usize, window: Window) -> Cut
-        requires some { 0 < bits }
-        requires end { window.start + window.len < 2 ^ 64 }
-        ensures { result ≡ cut_of bits window }
+    /// The cut of a window of a memory of such elements. Condition: the window's end fits a `usize`.
+    pub fn of<T: BitStore>(window: Window) -> Cut
+        requires { window.start + window.len < 2 ^ 64 }
+        ensures { result ≡ cut_of T.BITS window }
     {
         if window.len == 0 {
-            let element = window.start / bits;
+            let element = window.element::<T>();
             return Cut::Across {
                 head: None,
                 start: element,
@@ -51,24 +49,24 @@ impl Cut {
                 tail: None,
             };
         }
-        let first = first_part(bits, window);
-        let last = last_part(bits, window);
+        let first = window.first_part::<T>();
+        let last = window.last_part::<T>();
         if first.from == 0 {
-            return Cut::across(bits, None, first.element, last);
+            return Cut::across::<T>(None, first.element, last);
         }
-        if first.to == bits {
-            return Cut::across(bits, Some(first), first.element + 1, last);
+        if first.to == T::BITS as usize {
+            return Cut::across::<T>(Some(first), first.element + 1, last);
         }
         Cut::Inside(first)
     }
 
     // From the head and the whole element `start` on, up to the end of the last part, which is the
     // tail if it doesn't end its element.
-    fn across(bits: usize, head: Option<Part>, start: usize, last: Part) -> Cut
+    fn across<T: BitStore>(head: Option<Part>, start: usize, last: Part) -> Cut
         requires { last.element + 1 < 2 ^ 64 }
-        ensures { result ≡ cut_across bits head start last }
+        ensures { result ≡ cut_across T.BITS head start last }
     {
-        if last.to == bits {
+        if last.to == T::BITS as usize {
             return Cut::Across {
                 head,
                 start,

@@ -57,18 +57,17 @@ Writes-elements {b} at {xs} {ys} {to} {from} some span edge right_edge whole =
     }
 
 -- the elements of a part copied at once
-pub elements-copied : {A : Type 0} (value : A → ℕ) {b w : ℕ} {at : ℕ → ℕ → ℕ} (left right : List A) {new : List A} {to from : Window} → 0 < b → w ≡ b → HasSpan b (map value left) (map value right) to from → to.start % b ≡ 0 → from.start % b ≡ 0 → to.len % b ≡ 0
-    → new ≡ slice_range right (from.start / w) (from.start / w + to.len / w)
-    → Writes b at (map value left) (map value (put_mid (to.start / w) (to.start / w + to.len / w - to.start / w) left new)) to (list_in b at (map value right) from)
-elements-copied value {b} {w} {at} left right {new} {to} {from} some same span edge right_edge whole is =
+pub elements-copied : {A : Type 0} (value : A → ℕ) {b : ℕ} {at : ℕ → ℕ → ℕ} {left right : List A} {new : List A} {to from : Window} → 0 < b → HasSpan b (map value left) (map value right) to from → to.start % b ≡ 0 → from.start % b ≡ 0 → to.len % b ≡ 0
+    → new ≡ slice_range right (from.start / b) (from.start / b + to.len / b)
+    → Writes b at (map value left) (map value (put_mid (to.start / b) (to.start / b + to.len / b - to.start / b) left new)) to (list_in b at (map value right) from)
+elements-copied value {b} {at} {left} {right} {new} {to} {from} some span edge right_edge whole is =
     let wrote = Writes-elements at some span edge right_edge whole in
     let inside = whole-inside to.len some span.beside right_edge whole (let lengths = span.lengths in omega arith) in
     let ends = length-map right value in
-    rw same (
-    let long = ap length is ∙ ap (λ (n : ℕ). length (slice_range right (from.start / n) (from.start / n + to.len / n))) same ∙ length-slice_range right (from.start / b) (from.start / b + to.len / b) (omega arith) in
+    let long = ap length is ∙ length-slice_range right (from.start / b) (from.start / b + to.len / b) (omega arith) in
     let numbers = part-numbers value (to.start / b) (to.start / b + to.len / b - to.start / b) left new (omega arith) in
-    let part = ap (map value) is ∙ ap (λ (n : ℕ). map value (slice_range right (from.start / n) (from.start / n + to.len / n))) same ∙ range-map value right (from.start / b) (from.start / b + to.len / b) in
-    rw (numbers, part) wrote)
+    let part = ap (map value) is ∙ range-map value right (from.start / b) (from.start / b + to.len / b) in
+    rw (numbers, part) wrote
 
 -- ---- the bits of one element
 
@@ -77,10 +76,10 @@ pub none-copied : {b : ℕ} {at : ℕ → ℕ → ℕ} {xs ys : List ℕ} {to fr
 none-copied {b} {at} {xs} {ys} {to} {from} span none = Writes-none at ys from span.window none (sym span.lengths ∙ none)
 
 -- those of an element that was read, stored at the same indices of another
-pub part-copied : {A : Type 0} (value : A → ℕ) {b w : ℕ} {at : ℕ → ℕ → ℕ} {xs mid : List ℕ} (right : List A) {to from : Window} {part : Part} {v : A} → 0 < b → w ≡ b → HasSpan b xs (map value right) to from → to.len ≢ 0 → to.start % b ≡ from.start % b → to.start % b + to.len ≤ b
-    → part ≡ first_part_of w to → v ≡ slice_index_or right (from.start / w) v
+pub part-copied : {A : Type 0} (value : A → ℕ) {b : ℕ} {at : ℕ → ℕ → ℕ} {xs mid : List ℕ} {right : List A} {to from : Window} {part : Part} {v : A} → 0 < b → HasSpan b xs (map value right) to from → to.len ≢ 0 → to.start % b ≡ from.start % b → to.start % b + to.len ≤ b
+    → part ≡ first_part_of b to → v ≡ slice_index_or right (from.start / b) v
     → Writes b at xs mid (part_window b part) (slice_range (element_bits b at (value v)) part.from part.to) → Writes b at xs mid to (list_in b at (map value right) from)
-part-copied value {b} {w} {at} {xs} {mid} right {to} {from} {part} {v} some same span more phases one is held writes =
+part-copied value {b} {at} {xs} {mid} {right} {to} {from} {part} {v} some span more phases one is held writes =
     let ys = map value right in
     let place = div-add-mod' to.start b in
     let right_place = div-add-mod' from.start b in
@@ -89,9 +88,9 @@ part-copied value {b} {w} {at} {xs} {mid} right {to} {from} {part} {v} some same
     let len = span.beside.within.len in
     let inside : from.start / b < length ys = element_of b (from.start / b) (from.start % b) (length ys) (omega arith) in
     let number : value v ≡ slice_index ys (from.start / b) =
-    ap value (rw same at held) ∙ sym (get_or-map value right (from.start / b) v 0 (omega (arith, length-map right value))) in
+    ap value held ∙ sym (get_or-map value right (from.start / b) v 0 (omega (arith, length-map right value))) in
     let piece : Part = record (first_part_of b to) { element = from.start / b } in
     let source = list-part {b = b} at {xs = ys} {part = piece} (record { element = inside; order = omega arith; bound = omega arith }) in
-    let stored : Writes b at xs mid (part_window b (first_part_of b to)) (slice_range (element_bits b at (slice_index ys (from.start / b))) (first_part_of b to).from (first_part_of b to).to) = rw (is, same, number) at writes in
+    let stored : Writes b at xs mid (part_window b (first_part_of b to)) (slice_range (element_bits b at (slice_index ys (from.start / b))) (first_part_of b to).from (first_part_of b to).to) = rw (is, number) at writes in
     Writes-same (part_window b (first_part_of b to)) to (omega arith) (omega arith)
     (Writes-is stored (sym (list-same b at ys (part_window b piece) from (omega arith) (omega arith) ∙ source)))

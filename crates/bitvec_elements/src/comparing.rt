@@ -86,11 +86,11 @@ pub fn eq_blocks_in<T: BitStore, O: SliceOrder>(
     ensures { result ≡ same_bits (list_in T.BITS O.at (map T.value left.now) left_window)
         (list_in T.BITS O.at (map T.value right.now) right_window) }
 {
-    let bits = T::BITS as usize;
-    let has_edges = left_window.start % bits == 0 && right_window.start % bits == 0;
+    let has_edges = left_window.phase::<T>() == 0 && right_window.phase::<T>() == 0;
     let mut left = Shared::new(left);
     let mut right = Shared::new(right);
-    if has_edges && left_window.len % bits == 0 && left_window.len < SHORT_BITS {
+    let is_whole = left_window.len % T::BITS as usize == 0;
+    if has_edges && is_whole && left_window.len < SHORT_BITS {
         return elements_eq::<O, Shared<T>, Shared<T>>(
             &mut left,
             left_window,

@@ -103,9 +103,8 @@ pub fn copy_from_long_block_in<T: BitStore, O: SliceOrder>(
     ensures writes { Writes T.BITS O.at (map T.value left.old) (map T.value left.new) to
         (list_in T.BITS O.at (map T.value right.now) from) }
 {
-    let bits = T::BITS as usize;
-    let has_edges = to.start % bits == 0 && from.start % bits == 0;
-    if has_edges && to.len % bits == 0 {
+    let has_edges = to.phase::<T>() == 0 && from.phase::<T>() == 0;
+    if has_edges && to.len % T::BITS as usize == 0 {
         copy_whole_in::<T, O>(left, to, right, from);
         return;
     }
@@ -119,8 +118,7 @@ fn copy_parted_in<T: BitStore, O: SliceOrder>(left: &mut [T], to: Window, right:
     requires { HasSpan T.BITS (map T.value left.old) (map T.value right.now) to from }
     ensures { Copies T.BITS O.at (map T.value left.old) (map T.value left.new) to (map T.value right.now) from }
 {
-    let bits = T::BITS as usize;
-    if to.len >= AT_ONCE_BITS && to.start % bits == from.start % bits {
+    if to.len >= AT_ONCE_BITS && to.phase::<T>() == from.phase::<T>() {
         copy_elements_in::<T, O>(left, to, right, from);
         return;
     }

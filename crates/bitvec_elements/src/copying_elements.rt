@@ -3,7 +3,7 @@ ghost use Rattle.std.specs.Prelude.{◌≡◌, ◌+◌, ◌%◌, ◌≤◌, map}
 ghost use Rattle.bitvec_base.specs.Spans.{HasSpan};
 ghost use Rattle.bitvec_words.specs.Moves.{Copies};
 
-use bitvec_base::{BitOrder, Window, first_part};
+use bitvec_base::{BitOrder, Window, elements_of};
 use bitvec_cells::Exclusive;
 use bitvec_store::BitStore;
 use bitvec_words::store_part;
@@ -47,8 +47,8 @@ pub(crate) fn copy_whole_in<T: BitStore, O: BitOrder>(
     requires whole { to.len % T.BITS ≡ 0 }
     ensures writes { Copies T.BITS O.at (map T.value left.old) (map T.value left.new) to (map T.value right.now) from }
 {
-    let bits = T::BITS as usize;
-    let (first, source, count) = (to.start / bits, from.start / bits, to.len / bits);
+    let (first, source) = (to.element::<T>(), from.element::<T>());
+    let count = elements_of::<T>(to.len);
     left[first..first + count].copy_from_slice(&right[source..source + count]);
 }
 
@@ -62,9 +62,8 @@ fn copy_part_in<T: BitStore, O: BitOrder>(left: &mut [T], to: Window, right: &[T
     if to.len == 0 {
         return;
     }
-    let bits = T::BITS as usize;
-    let part = first_part(bits, to);
-    let element = right[from.start / bits];
+    let part = to.first_part::<T>();
+    let element = right[from.element::<T>()];
     let mut cells = Exclusive::new(left);
     store_part::<O, Exclusive<T>>(&mut cells, part, element);
 }

@@ -1,12 +1,12 @@
 //! How many bits of a window of a slice of elements are 1.
-ghost use Rattle.std.specs.Prelude.{◌≡◌, ◌≤◌, ◌↔◌, ◌⊎◌, count_by, map, min, true};
+ghost use Rattle.std.specs.Prelude.{◌≡◌, ◌≤◌, count_by, map};
 ghost use Rattle.bitvec_base.specs.Memory.{HasWindow, list_in};
 
-use crate::window_words::few_word;
+use crate::window_words::{few_word, is_few};
 use bitvec_base::{BitOrder, Window};
 use bitvec_cells::Shared;
 use bitvec_store::BitStore;
-use bitvec_words::{WORD_BITS, WordOrder, count};
+use bitvec_words::{WordOrder, count};
 
 /// How many bits of a window are 1. Few bits go as a word under an order that runs from one end of an element to the
 /// other, and all others by whole elements. Condition: the memory has at most `MAX_BITS` bits, and the window lies in it.
@@ -20,15 +20,6 @@ pub fn count_in<T: BitStore, O: BitOrder>(elements: &[T], window: Window) -> usi
         return_by_direction!(O, T => count_few::<_, T>(elements, window));
     }
     count_blocks_in::<T, O>(elements, window)
-}
-
-/// Whether that many bits are loaded as a word with no loop: no more than an element and a word have, or 64.
-#[inline(always)]
-fn is_few<T: BitStore>(len: usize) -> bool
-    ensures few { result ≡ true → len ≤ 64 }
-    ensures exact { (result ≡ true) ↔ ((len ≡ 64) ⊎ (len ≤ min 64 T.BITS)) }
-{
-    len == WORD_BITS || len <= WORD_BITS.min(T::BITS as usize)
 }
 
 /// [`count_in`] of at most 64 bits, as a word.

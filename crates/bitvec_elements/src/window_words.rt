@@ -1,13 +1,13 @@
 //! The bits of a window of a slice, up to 64 of them, as the first bits of a word under an order that
 //! runs from one end of it to the other.
-ghost use Rattle.std.specs.Prelude.{◌≡◌, ◌+◌, ◌/◌, ◌<◌, ◌≤◌, map, slice_range};
+ghost use Rattle.std.specs.Prelude.{◌≡◌, ◌+◌, ◌/◌, ◌<◌, ◌≤◌, ◌↔◌, ◌⊎◌, map, min, slice_range, true};
 ghost use Rattle.bitvec_base.specs.Memory.{HasWindow, element_bits, list_in};
 ghost use Rattle.bitvec_words.specs.Elements.{elements_window_from};
 ghost use Rattle.bitvec_words.specs.ShortWindow.{padded};
 ghost use Rattle.bitvec_elements.specs.BitsFrom.{HasBitsFrom};
 ghost use Rattle.bitvec_engine.specs.Direction.{HasDirection};
 
-use bitvec_base::{BitOrder, Lsb0, Msb0, Part, Window, first_part};
+use bitvec_base::{BitOrder, Lsb0, Msb0, Part, Window, elements_of};
 use bitvec_cells::{CellsRead, Shared};
 use bitvec_engine::Direction;
 use bitvec_store::BitStore;
@@ -78,9 +78,8 @@ fn run_word<W: WordOrder, T: BitStore>(elements: &[T], window: Window) -> u64
     ensures { element_bits 64 W.at result
         ≡ padded 64 (list_in T.BITS W.at (map T.value elements.now) window) }
 {
-    let bits = T::BITS as usize;
-    if window.len == WORD_BITS && bits <= WORD_BITS {
-        return word_behind::<W, T>(elements, window.start / bits, window.start % bits);
+    if window.len == WORD_BITS && T::BITS <= u64::BITS {
+        return word_behind::<W, T>(elements, window.element::<T>(), window.phase::<T>());
     }
     let mut cells = Shared::new(elements);
     load_parts::<W, Shared<T>>(&mut cells, window)
@@ -100,15 +99,24 @@ pub(crate) fn word_behind<W: WordOrder, T: BitStore>(
     ensures { element_bits 64 W.at result
         ≡ list_in T.BITS W.at (map T.value elements.now) (elements_window_from T.BITS first skip (64 / T.BITS)) }
 {
-    let bits = T::BITS as usize;
     let mut cells = Shared::new(elements);
     let word = load_elements::<W, Shared<T>>(&mut cells, first);
     if skip == 0 {
         return word;
     }
-    let next = elements[first + WORD_BITS / bits];
-    let behind = moved::<W, T, u64>(next, 0, bits, 0);
+    let next = elements[first + elements_of::<T>(WORD_BITS)];
+    let behind = moved::<W, T, u64>(next, 0, T::BITS as usize, 0);
     joined::<W, u64>(word, behind, skip)
+}
+
+/// Whether that many bits are loaded and stored as a word with no loop: at most as many as an element has and at most 64, or
+/// exactly 64.
+#[inline(always)]
+pub fn is_few<T: BitStore>(len: usize) -> bool
+    ensures few { result ≡ true → len ≤ 64 }
+    ensures exact { (result ≡ true) ↔ ((len ≡ 64) ⊎ (len ≤ min 64 T.BITS)) }
+{
+    len == WORD_BITS || len <= WORD_BITS.min(T::BITS as usize)
 }
 
 /// The bits of a window as the first bits of a word under an order that runs from one end of it to the other, with
@@ -137,11 +145,10 @@ fn gathered_word<W: WordOrder, O: BitOrder, T: BitStore>(elements: &[T], window:
         ≡ padded 64 (list_in T.BITS O.at (map T.value elements.now) window) }
 {
     let mut cells = Shared::new(elements);
-    let bits = T::BITS as usize;
     let mut word = 0;
     let mut rest = window;
     while rest.len > 0 {
-        let part = first_part(bits, rest);
+        let part = rest.first_part::<T>();
         let count = part.len();
         let element = cells.load(part.element);
         let first = gathered_part::<O, W, T>(element, part);

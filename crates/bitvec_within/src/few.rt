@@ -1,22 +1,12 @@
-//! Which windows are loaded and stored as a word, and how such a one is stored.
-ghost use Rattle.std.specs.Prelude.{◌≡◌, ◌≤◌, ◌↔◌, ◌⊎◌, map, min, take, true};
+//! Few bits stored as a word.
+ghost use Rattle.std.specs.Prelude.{◌≤◌, map, take};
 ghost use Rattle.bitvec_base.specs.Memory.{HasWindow, Writes, element_bits};
 
 use bitvec_base::Window;
 use bitvec_cells::Exclusive;
 use bitvec_passes::store_few;
 use bitvec_store::BitStore;
-use bitvec_words::{WORD_BITS, WordOrder};
-
-/// Whether that many bits are loaded and stored as a word with no loop: no more than an element and a
-/// word have, or 64.
-#[inline(always)]
-pub(crate) fn is_few<T: BitStore>(len: usize) -> bool
-    ensures few { result ≡ true → len ≤ 64 }
-    ensures exact { (result ≡ true) ↔ ((len ≡ 64) ⊎ (len ≤ min 64 T.BITS)) }
-{
-    len == WORD_BITS || len <= WORD_BITS.min(T::BITS as usize)
-}
+use bitvec_words::WordOrder;
 
 /// Stores the first bits of a word to a window of a slice of elements. Conditions: the memory has at most `MAX_BITS`
 /// bits, and the window lies in it and has at most 64.

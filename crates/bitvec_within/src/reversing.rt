@@ -4,10 +4,10 @@
 ghost use Rattle.std.specs.Prelude.{◌≤◌, map, reverse as reversal};
 ghost use Rattle.bitvec_base.specs.Memory.{Edits, HasWindow};
 
-use crate::few::{is_few, store_few_in};
+use crate::few::store_few_in;
 use bitvec_base::Window;
 use bitvec_cells::Exclusive;
-use bitvec_elements::{few_word, return_by_direction};
+use bitvec_elements::{few_word, is_few, return_by_direction};
 use bitvec_engine::SliceOrder;
 use bitvec_store::BitStore;
 use bitvec_words::{WORD_BITS, WordOrder, moved, reversed};

@@ -28,10 +28,10 @@ returns g c =
     let inside : first + 64 / b < length xs = element_of b (first + 64 / b) 0 (length xs) (omega arith) in
     let fits : first * b + 64 + b ≤ b * length xs = omega (arith, element_fits b (first + 64 / b) (length xs) inside) in
     let word = (rw c.new-cells.ensures.numbers at c.load_elements-word.ensures.value) ∙ ap (λ (n : ℕ). slice_range bits (first * b) (first * b + n)) whole in
-    let held = rw c.BITS-bits.ensures at c.index-elements-first.is in
+    let held = rw c.elements_of.ensures at c.index-elements-first.is in
     let number = ap g.T.BitStore.value held ∙ sym (get_or-map g.T.BitStore.value c.args.elements.now (first + 64 / b) c.index-elements-first.result 0 (omega arith)) in
     let next_bits = ap (element_bits b at) number ∙ sym (rw sum at (element-range b at xs (first + 64 / b) inside)) in
-    let behind = rw (c.BITS-bits.ensures, next_bits) at c.moved-behind.ensures in
+    let behind = rw (c.BITS.ensures, next_bits) at c.moved-behind.ensures in
     let joined = rw (word, behind) at c.joined.ensures in
     joined
     ∙ word-across bits (first * b) b skip below c.requires.narrow (omega arith)
