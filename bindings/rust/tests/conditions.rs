@@ -5,7 +5,7 @@ mod list;
 
 use fehimbary::cells::{Cells, CellsRead, Exclusive, Shared};
 use fehimbary::engine::{self, BitOp, End, Rest};
-use fehimbary::index::{first_part, last_part, Part, Window};
+use fehimbary::index::{Part, Window};
 use fehimbary::prelude::*;
 use fehimbary::run::{run_halves, Op, Reply, Side, Step};
 use fehimbary::slice::*;
@@ -130,11 +130,10 @@ fn elements_and_orders(seen: &mut Seen) {
         from_bits(|_bytes| u8::from_bits(0, 0));
         from_bits(|_bytes| i8::from_bits(0, 9));
         from_bits(|_bytes| i8::from_bits(16, 4));
-        first_part(|_bytes| first_part(0, IN));
-        first_part(|_bytes| first_part(8, Window { start: 1, len: 0 }));
-        last_part(|_bytes| last_part(0, IN));
-        last_part(|_bytes| last_part(8, Window { start: 1, len: 0 }));
-        last_part(|_bytes| last_part(8, Window { start: usize::MAX, len: 1 }));
+        first_part(|_bytes| Window { start: 1, len: 0 }.first_part::<u8>());
+        last_part(|_bytes| Window { start: 1, len: 0 }.last_part::<u8>());
+        last_part(|_bytes| Window { start: usize::MAX, len: 1 }.last_part::<u8>());
+        tail_part(|_bytes| Window { start: usize::MAX, len: 1 }.tail_part::<u8>());
         len(|_bytes| Part { element: 0, from: 2, to: 1 }.len());
         after(|_bytes| IN.after(21));
         after(|_bytes| Window { start: usize::MAX, len: 1 }.after(0));
@@ -142,8 +141,7 @@ fn elements_and_orders(seen: &mut Seen) {
         range(|_bytes| IN.range(3, 2));
         range(|_bytes| IN.range(3, 21));
         range(|_bytes| Window { start: usize::MAX, len: 1 }.range(0, 1));
-        of(|_bytes| Cut::of(0, IN));
-        of(|_bytes| Cut::of(8, Window { start: usize::MAX, len: 1 }));
+        of(|_bytes| Cut::of::<u8>(Window { start: usize::MAX, len: 1 }));
         of_elements(|bytes| Cut::of_elements(&bytes[..], OUT));
         piece(|_bytes| InChunks { size: 4 }.piece(12, 3));
         bits_in(|_bytes| (3..9).bits_in(8));

@@ -1,2 +1,2 @@
 //! Places in a memory: windows of its bits, and parts of its elements.
-pub use bitvec_base::{MAX_BITS, Part, Window, first_part, last_part};
+pub use bitvec_base::{MAX_BITS, Part, Window};
