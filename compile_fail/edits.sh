@@ -1,5 +1,5 @@
 #!/usr/bin/env bash
-# Wrong bodies that a clause refuses, of crates whose proof is too long for the gate to try them. Each file
+# Wrong bodies that a clause refuses, and that the gate doesn't try, since they would take too long there. Each file
 # compile_fail/edits/CRATE/NAME.edit is a must-fail edit of the crate. A copy of the tree gets what `rt` built and proved
 # here, and a crate's edits from this folder in place of its own; `rt must-fail` has to refuse each there, and fails at one
 # that can't be applied or read. What isn't built here is proved first. With names of crates as arguments these alone

@@ -47,6 +47,7 @@ pub record RunsSteps (high : Bool) (b : ℕ) (at : ℕ → ℕ → ℕ) (window 
   pub writes : Writes b at old new window (list_after_steps high b window.start (memory_bits b at right) (list_in b at old window) steps)
 
 module _ {E : Type 0} (order b : ℕ) (value : E → ℕ) where
+  -- Which status a run has, by its memories and then by its steps; what its steps did where that is 0, and that nothing changed else.
   pub record Runs (window : Window) (old new right : List E) (steps : List RawStep) (replies_old replies_new : List RawReply) (status : ℕ) : Type 0 where
     pub status_is : status ≡ or_next (memories_status order b (map value old) window (map value right)) (steps_status steps (length replies_old))
     pub runs : status ≡ 0 → Under order (λ at high. RunsSteps high b at window steps (map value right) (map value old) (map value new) replies_old replies_new)

@@ -1,5 +1,5 @@
 //! What a walk from the front keeps of the elements that it loaded last. Everything down to the
-//! load is inlined into `next`, so that a loop over a walk keeps it in registers.
+//! load is inlined into `next` of a walk, so that a loop over a walk keeps it in registers.
 ghost use Rattle.std.specs.Prelude.{◌<◌, ◌≤◌, map};
 ghost use Rattle.std.specs.Iterator.{YieldsFirst};
 ghost use Rattle.bitvec_base.specs.Memory.{HasWindow, list_in};
