@@ -16,11 +16,9 @@ pub trait Act<C: CellsRead>: Copy + Drop {
     // Whether nothing is left to be done.
     ghost stopped: { Self → Bool };
 
-    /// After how many whole elements of `bits` bits the act is asked whether it stops; 0 if it never does.
+    /// After how many whole elements the act is asked whether it stops; 0 if it never does.
     #[inline(always)]
-    fn span(_bits: usize) -> usize
-        requires { 0 < _bits }
-    {
+    fn span() -> usize {
         0
     }
 
