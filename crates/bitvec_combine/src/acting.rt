@@ -69,7 +69,8 @@ pub trait Act<C: CellsRead>: Copy + Drop {
 /// How many spans of `span` elements are in `count` elements; none if `span` is 0.
 #[inline(always)]
 pub(crate) fn spans_in(count: usize, span: usize) -> usize
-    ensures { result ≡ count / span }
+    ensures is { result ≡ count / span }
+    ensures fits { result * span ≤ count }
 {
     count.checked_div(span).unwrap_or(0)
 }

@@ -141,7 +141,6 @@ pub fn equal_unshifted<O: BitOrder, C: CellsRead, D: CellsRead<Elem = C::Elem>>(
 }
 
 /// Whether two windows have the same bits, with a test after each so many bits.
-#[tactic(auto, using(crate::specs::DifferLaws::found_same))]
 #[inline(always)]
 fn equal_in_phases<
     O: BitOrder,
