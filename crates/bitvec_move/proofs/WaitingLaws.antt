@@ -150,20 +150,20 @@ waiting-two b at xs e skip n m p w u list other some has next below over fits lo
     Writes-join
     (HasWindow-set e p has) refl (omega arith) (omega arith) first second
 
-pub waiting-beyond : {b : ℕ} {at : ℕ → ℕ → ℕ} {xs : List ℕ} {window : Window} {end : ℕ} (p v w t u : ℕ) → 0 < b → HasWindow b xs window
-    → end ≡ window.start % b + window.len → window.len ≤ b → b < end
+pub waiting-beyond : {b : ℕ} {at : ℕ → ℕ → ℕ} {xs : List ℕ} {window : Window} (m p v w t u : ℕ) → 0 < b → HasWindow b xs window
+    → b + m ≡ window.start % b + window.len → window.len ≤ b → b < window.start % b + window.len
     → element_bits b at w ≡ write_at (element_bits b at p) (window.start % b) (slice_range (element_bits b at v) (window.start % b) b)
-    → element_bits b at u ≡ write_at (element_bits b at (slice_index xs (window.start / b + 1))) 0 (slice_range (element_bits b at t) 0 (end - b))
+    → element_bits b at u ≡ write_at (element_bits b at (slice_index xs (window.start / b + 1))) 0 (slice_range (element_bits b at t) 0 m)
     → Writes b at (slice_set xs (window.start / b) p) (slice_set (slice_set xs (window.start / b) w) ((window.start + window.len - 1) / b) u) window
-    (slice_range (element_bits b at v) (window.start % b) b ++ slice_range (element_bits b at t) 0 (end - b))
-waiting-beyond {b} {at} {xs} {window} {end} p v w t u some has is fits over wrote wrote_next =
+    (slice_range (element_bits b at v) (window.start % b) b ++ slice_range (element_bits b at t) 0 m)
+waiting-beyond {b} {at} {xs} {window} m p v w t u some has is fits over wrote wrote_next =
     let place = div-add-mod' window.start b in
     let head = mod_below window.start b some in
     let has' : HasWindow b xs (record { start = window.start / b * b + window.start % b; len = window.len }) = rw place has in
-    rw (last-next b window.start window.len some fits (omega arith))
+    rw (last-next b window.start window.len some fits over)
     (Writes-same (record { start = window.start / b * b + window.start % b; len = window.len }) window (sym place) refl
-    (waiting-two b at xs (window.start / b) (window.start % b) window.len (end - b) p w u _ _ some has' (next-inside b xs window has (omega arith)) head
-    (omega arith) (omega arith) (length-part b at v (window.start % b) b (omega arith)) (let long = length-part b at t 0 (end - b) (omega arith) in omega arith) wrote wrote_next))
+    (waiting-two b at xs (window.start / b) (window.start % b) window.len m p w u _ _ some has' (next-inside b xs window has over) head
+    is (omega arith) (length-part b at v (window.start % b) b (omega arith)) (let long = length-part b at t 0 m (omega arith) in omega arith) wrote wrote_next))
 
 -- ---- whole elements exchanged with the bits from an index of an element on
 

@@ -56,7 +56,7 @@ loop-step-init g c = record {
   };
   cost = Costs-none g.C.CellsRead _;
   right_cost = Costs-none g.D.CellsRead _;
-  ends = ends-start (length-element_bits _ _ _) c.requires.bound (rw c.BITS.ensures at c.toward_end-before.ensures);
+  ends = ends-start (length-element_bits _ _ _) c.requires.bound (rw c.bits_from-rest.ensures at c.toward_end-before.ensures);
 }
 
 pub load-element-requires : goal.load-element-requires
@@ -79,8 +79,8 @@ loop-step-preserved g c =
     let next = element_bits b at (slice_index (g.D.CellsRead.numbers c.loop-step.right) (c.args.source + c.loop-step.step + 1)) in
     let next_long = length-element_bits b at (slice_index (g.D.CellsRead.numbers c.loop-step.right) (c.args.source + c.loop-step.step + 1)) in
     let joined = rw (c.load-next.ensures.value, ← inv.ends.rest) at c.joined.ensures in
-    let met = rw (c.BITS.ensures, c.load-element.ensures.value) at c.joined-in-loop-step.ensures in
-    let carried = rw (c.load-element.ensures.value, c.BITS.ensures) at c.toward_start-carried.ensures in
+    let met = rw (c.bits_from-rest.ensures, c.load-element.ensures.value) at c.joined-in-loop-step.ensures in
+    let carried = rw (c.load-element.ensures.value, c.bits_from-rest.ensures) at c.toward_start-carried.ensures in
     let merged = rw (c.load-next.ensures.value, carried) at c.merged-last.ensures in
     let waits = merged ∙ ap (write_at next 0) (range-carried element b c.args.skip long below) in
     record {
