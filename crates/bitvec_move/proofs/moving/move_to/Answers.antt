@@ -27,9 +27,6 @@ after-has {b} {xs} {window} n has fits = HasWindow-part (window_after n window) 
 rest-short : (b n : ℕ) → 0 < b → n - n / b * b ≤ b
 rest-short b n some = let all = div-add-mod' n b in let below = mod_below n b some in omega arith
 
-inside-short : (b s n : ℕ) → s % b + n ≤ b → n ≤ b
-inside-short b s n inside = omega arith
-
 -- bits of one element, if there are some
 touched-few : (b s n : ℕ) → 0 < b → s % b + n ≤ b → touched_count b s n ≤ 1
 touched-few b s zero some inside = let none = touched-none b s in omega arith
@@ -125,14 +122,18 @@ load_short-back-requires g c =
 
 pub move_elements-requires-clause-towards : goal.move_elements-requires-clause-towards
 move_elements-requires-clause-towards g c =
-    rw (c.of-moved.ensures, c.after-rest.ensures, c.after-behind.ensures) (toward-behind _ _ _ _ _ (width_some _ g.met.C.Elem.BitStore.width_law) c.requires.towards)
+    let some = width_some _ g.met.C.Elem.BitStore.width_law in
+    rw (c.of-moved.ensures, c.after-rest.ensures, c.after-behind.ensures) (toward-behind _ _ _ _ _ some c.requires.towards)
 
 pub store_short-requires-2 : goal.store_short-requires-2
 store_short-requires-2 g c =
     let some = width_some _ g.met.C.Elem.BitStore.width_law in
     let kept = c.store_short.ensures.writes.elements ∙ c.move_elements.ensures.writes.elements ∙ ap length (c.load_short-back.ensures.reads.numbers ∙ c.load_short-front.ensures.reads.numbers) in
     rw (c.after-2.ensures, c.whole_bits-passed.ensures.value, c.after-rest.ensures)
-    (record { window = HasWindow-kept _ (after-has _ (after-has _ c.requires.span.window c.head_of-head.ensures.fits) (div-mul-le_self _ _)) kept; bound = inside-short _ _ _ (back-inside _ _ _ _ some c.head_of-head.ensures.long) })
+    (record {
+      window = HasWindow-kept _ (after-has _ (after-has _ c.requires.span.window c.head_of-head.ensures.fits) (div-mul-le_self _ _)) kept;
+      bound = rest-short _ _ some;
+    })
 
 pub returns-clause-writes : goal.returns-clause-writes
 returns-clause-writes g c =
@@ -165,4 +166,4 @@ returns-clause-cost g c =
     let head = rw (c.until-2.ensures, c.after-rest.ensures, until-all n t c.head_of-head.ensures.fits) at c.store_short.ensures.cost in
     let tail = rw (c.after-2.ensures, passed, c.after-rest.ensures) at c.store_short-2.ensures.cost in
     let last = touched-few b _ _ some (back-inside b c.args.to.start t n some c.head_of-head.ensures.long) in
-    Costs-edges g.C.CellsRead _ _ _ _ _ _ _ _ _ _ _ _ _ _ front back whole head (omega arith) tail last (loads-fit _ _ _ _ _ _ _ read elements late) (stores-fit _ _ _ _ _ one stored late written)
+    Costs-edges g.C.CellsRead _ _ front back whole head (omega arith) tail last (loads-fit _ _ _ _ _ _ _ read elements late) (stores-fit _ _ _ _ _ one stored late written)

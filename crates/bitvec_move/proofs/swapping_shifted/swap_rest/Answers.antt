@@ -58,7 +58,7 @@ returns-then-tail-eq0-clause-right_cost g c =
     let all = touched-from_full b c.args.right_window.start c.args.right_window.len (width_some _ g.met.C.Elem.BitStore.width_law) c.requires.skipped.inside full in
     let more = touched-first b c.args.right_window.start c.args.right_window.len (omega arith) in
     let cost = rw (c.of-stretch.ensures, c.requires.skipped.span.lengths) at c.swap_across-last.ensures.right_cost in
-    Costs-stored g.D.CellsRead _ _ _ _ _ cost c.store.ensures.borrow c.store.ensures.loads c.store.ensures.stores all more
+    Costs-stored g.D.CellsRead cost c.store.ensures.borrow c.store.ensures.loads c.store.ensures.stores all more
 
 pub returns-clause-swaps : goal.returns-clause-swaps
 returns-clause-swaps g c =
@@ -81,7 +81,7 @@ returns-clause-cost g c =
     let left = rw c.tail_part-tail.ensures at c.if-tail-eq0.false in
     let all = touched-more g.C.Elem.BitStore.BITS c.args.left_window.start c.args.left_window.len (width_some _ g.met.C.Elem.BitStore.width_law) c.requires.skipped.edge (omega arith) in
     let cost = rw c.of-stretch.ensures at c.swap_across-last.ensures.cost in
-    Costs-sum g.C.CellsRead _ _ _ _ _ _ _ _ _ cost c.swap_waiting-end.ensures.cost all all
+    Costs-sum g.C.CellsRead cost c.swap_waiting-end.ensures.cost all all
 
 pub returns-clause-right_cost : goal.returns-clause-right_cost
 returns-clause-right_cost g c =
@@ -94,7 +94,7 @@ returns-clause-right_cost g c =
     let rest : c.args.right_window.len - c.args.right_window.len / b * b ≡ c.args.right_window.len % b = omega arith in
     let whole = rw (c.of-stretch.ensures, lengths) at c.swap_across-last.ensures.right_cost in
     let part = rw (c.after-behind.ensures, c.whole_bits.ensures.value, lengths, rest) at c.swap_waiting-end.ensures.right_cost in
-    Costs-stored g.D.CellsRead _ _ _ _ _ (Costs-sum g.D.CellsRead _ _ _ _ _ _ _ _ _ whole part all all) c.store-2.ensures.borrow c.store-2.ensures.loads c.store-2.ensures.stores refl more
+    Costs-stored g.D.CellsRead (Costs-sum g.D.CellsRead whole part all all) c.store-2.ensures.borrow c.store-2.ensures.loads c.store-2.ensures.stores refl more
 
 pub returns-then-tail-eq0-clause-swaps : goal.returns-then-tail-eq0-clause-swaps
 returns-then-tail-eq0-clause-swaps g c =

@@ -48,7 +48,7 @@ returns-then-passed-left_window-clause-right_cost g c =
     let long : c.args.right_window.len - (c.args.right_window.len - c.head_of-passed.result.1) ≡ c.args.right_window.len = omega arith in
     let more = touched-first b c.args.right_window.start c.args.right_window.len (omega arith) in
     let head = rw (c.until-met.ensures, long) at c.swap_waiting-last.ensures.right_cost in
-    Costs-around g.D.CellsRead _ _ _ _ _ _ c.load-waiting.ensures.borrow c.load-waiting.ensures.loads c.load-waiting.ensures.stores head c.store.ensures.borrow c.store.ensures.loads c.store.ensures.stores more
+    Costs-around g.D.CellsRead c.load-waiting.ensures.borrow c.load-waiting.ensures.loads c.load-waiting.ensures.stores head c.store.ensures.borrow c.store.ensures.loads c.store.ensures.stores more
 
 pub returns-clause-swaps : goal.returns-clause-swaps
 returns-clause-swaps g c =
@@ -71,7 +71,7 @@ returns-clause-cost g c =
     let some = width_some _ g.met.C.Elem.BitStore.width_law in
     let all = touched-rest b c.args.left_window.start c.head_of-passed.result.1 c.args.left_window.len some c.requires.some c.head_of-passed.ensures.long c.if-passed-left_window.false in
     let rest = rw c.after-rest.ensures at c.swap_rest.ensures.cost in
-    Costs-sum g.C.CellsRead _ _ _ _ _ _ _ _ _ c.swap_waiting-last.ensures.cost rest all all
+    Costs-sum g.C.CellsRead c.swap_waiting-last.ensures.cost rest all all
 
 pub returns-clause-right_cost : goal.returns-clause-right_cost
 returns-clause-right_cost g c =
@@ -86,7 +86,7 @@ returns-clause-right_cost g c =
     let behind = touched-first b (c.args.right_window.start + c.head_of-passed.result.1) (c.args.right_window.len - c.head_of-passed.result.1) (omega arith) in
     let first = rw (c.until-met.ensures, met) at c.swap_waiting-last.ensures.right_cost in
     let rest = rw c.after-behind.ensures at c.swap_rest.ensures.right_cost in
-    Costs-waiting g.D.CellsRead _ _ _ _ _ _ _ c.load-waiting.ensures.borrow c.load-waiting.ensures.loads c.load-waiting.ensures.stores first rest all front behind
+    Costs-waiting g.D.CellsRead c.load-waiting.ensures.borrow c.load-waiting.ensures.loads c.load-waiting.ensures.stores first rest all front behind
 
 pub returns-then-passed-left_window-clause-swaps : goal.returns-then-passed-left_window-clause-swaps
 returns-then-passed-left_window-clause-swaps g c =
