@@ -57,18 +57,18 @@ beside-stop {b = b} numbers Done stop {at} {c} {d} {ys} {s} {t} {left} {right} {
 
 -- ---- the part before the first edge of an element, of t bits
 
-pub head-window : (b w t : ℕ) (to : Window) (head : Part) → t ≡ head.to - head.from → head ≡ first_part_of w to → w ≡ b → part_window b head ≡ record { start = to.start; len = t }
-head-window b w t to head long is width = window-same (part_window b head) (record { start = to.start; len = t }) (rw (is, width) (first-place b to)) (sym long)
+pub head-window : (b : ℕ) {t : ℕ} (to : Window) {head : Part} → t ≡ head.to - head.from → head ≡ first_part_of b to → part_window b head ≡ record { start = to.start; len = t }
+head-window b {t} to {head} long is = window-same (part_window b head) (record { start = to.start; len = t }) (rw is (first-place b to)) (sym long)
 
 -- what was done with it, where the second window goes on behind it
-pub head-done : {C S : Type 0} (Done : (ℕ → ℕ → ℕ) → C → C → Window → List Bool → S → S → Type 0) {at : ℕ → ℕ → ℕ} {c d : C} {ys : List ℕ} {s u : S} {b w t : ℕ} (to : Window) {from met : Window} {head : Part}
-    → t ≡ head.to - head.from → head ≡ first_part_of w to → w ≡ b → HasWindow b ys from → t ≤ from.len → met ≡ window_until (from.len - min t from.len) from
+pub head-done : {C S : Type 0} (Done : (ℕ → ℕ → ℕ) → C → C → Window → List Bool → S → S → Type 0) {at : ℕ → ℕ → ℕ} {c d : C} {ys : List ℕ} {s u : S} {b t : ℕ} (to : Window) {from met : Window} {head : Part}
+    → t ≡ head.to - head.from → head ≡ first_part_of b to → HasWindow b ys from → t ≤ from.len → met ≡ window_until (from.len - min t from.len) from
     → Done at c d (part_window b head) (padded (head.to - head.from) (list_in b at ys met)) s u
     → Done at c d (record { start = to.start; len = t }) (list_in b at ys (record { start = from.start; len = t })) s u
-head-done Done {at} {ys = ys} {b} {w} {t} to {from} {met} {head} long is width has fits taken done =
+head-done Done {at} {ys = ys} {b} {t} to {from} {met} {head} long is has fits taken done =
     let part : Window = record { start = from.start; len = t } in
     let whole : met ≡ part = taken ∙ window-same _ part refl (omega arith) in
-    rw (head-window b w t to head long is width, ← long, whole, padded-all (length-list at (HasWindow-part part has (omega arith) (omega arith)))) at done
+    rw (head-window b to long is, ← long, whole, padded-all (length-list at (HasWindow-part part has (omega arith) (omega arith)))) at done
 
 -- the second window behind it begins at the edge, too, or doesn't
 pub rest-phases : (b s r t n : ℕ) (equal : Bool) → 0 < b → t ≡ min n (b - s % b) → t ≢ n → (s % b == r % b) ≡ equal → (0 == (r + t) % b) ≡ equal

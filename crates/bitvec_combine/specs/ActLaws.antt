@@ -4,7 +4,7 @@ use Rattle.std.proofs.Common.{arith, rules, sym, ◌∙◌, ap, ⊎_elim, append
 use Rattle.std.proofs.lemmas.Bool.{cases_lt}
 use Rattle.std.proofs.lemmas.Nat.{div-add-mod', mod-mul-add, mod_below}
 use Rattle.std.proofs.lemmas.List.{same_lists, places}
-use Rattle.std.proofs.Math.Nat.{div-mul-le_self, mul-le-mul_left}
+use Rattle.std.proofs.Math.Nat.{mul-le-mul_left}
 use Rattle.bitvec_base.specs.declared.window.Window.{Window}
 use Rattle.bitvec_base.specs.Window.{window_after, write_at}
 use Rattle.bitvec_base.specs.WritesLaws.{HasWindow-kept}
@@ -14,10 +14,10 @@ use Rattle.bitvec_words.specs.WholeLaws.{HasWindow-part}
 use Rattle.bitvec_combine.specs.Acts.{HasMet}
 
 -- The part of a zero element into which some first bits of a list's range were written is these bits, padded with zeros.
-pub padded-part : (b from to len : ℕ) (list : List Bool) → to ≤ b → len ≤ to - from → length list ≡ b
+pub padded-part : {b to len : ℕ} (from : ℕ) (list : List Bool) → to ≤ b → len ≤ to - from → length list ≡ b
     → slice_range (write_at (replicate b false) from (slice_range list from (from + len))) from to ≡ padded (to - from) (slice_range list from (from + len))
 unfolding padded write_at
-padded-part b from to len list inside bound long = same_lists _ _ (search (rules, places)) (λ k d below. grind (arith, places))
+padded-part {b} {to} {len} from list inside bound long = same_lists _ _ (search (rules, places)) (λ k d below. grind (arith, places))
 
 -- Zeros behind the second of two lists are zeros behind the two joined.
 pub padded-join : {k n : ℕ} (m : ℕ) (first second : List Bool) → k ≡ n + m → length first ≡ n → first ++ padded m second ≡ padded k (first ++ second)
@@ -29,12 +29,8 @@ padded-join {k} m first second sum long =
 -- ---- whole elements
 
 -- The span at the index `i` of `n` spans of `k` elements ends within as many elements as hold all spans.
-pub span-fits : (i n k count : ℕ) → i < n → n * k ≤ count → i * k + k ≤ count
-span-fits i n k count more fits = let order = mul-le-mul_left k more in omega arith
-
--- As many spans of `k` elements as the quotient says fit in `count` elements.
-pub spans-fit : (i k count : ℕ) → i ≡ count / k → i * k ≤ count
-spans-fit i k count is = rw is (div-mul-le_self count k)
+pub span-fits : {i n count : ℕ} (k : ℕ) → i < n → n * k ≤ count → i * k + k ≤ count
+span-fits k more fits = let order = mul-le-mul_left k more in omega arith
 
 -- ---- two windows, the second of which may end before the first
 

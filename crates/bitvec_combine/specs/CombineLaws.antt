@@ -82,6 +82,7 @@ module _ {E C : Type 0} (access : Access C E) (b : ℕ) (at : ℕ → ℕ → �
         cost = let low = before.cost in let high = after.cost in record { borrow = high.borrow ∙ low.borrow; loads = omega arith; stores = omega arith };
       }
 
+module _ {E C : Type 0} {access : Access C E} {b : ℕ} {at : ℕ → ℕ → ℕ} where
   -- the bits of a window within an element, which was loaded and stored
   combines-one : (c d : C) (e k : ℕ) (window : Window) (list : List Bool) (op : BitOp) → 0 < b → window.start ≡ e * b + k → 0 < window.len → k + window.len ≤ b → length list ≡ window.len
       → Writes b at (access.numbers c) (access.numbers d) window (combined (operator op) (list_in b at (access.numbers c) window) list) → Costs access c d 1 1 → CombinesBits access b at c d window list op op
@@ -90,9 +91,9 @@ module _ {E C : Type 0} (access : Access C E) (b : ℕ) (at : ℕ → ℕ → �
       record { writes = writes; long = long; same = refl; cost = rw (touched-one b window.start window.len some more (omega arith)) cost }
 
   -- Combining a whole element with one load and one store combines its window.
-  pub combines-whole : (c d : C) (e v w : ℕ) (op : BitOp) → 0 < b → e < length (access.numbers c) → element_bits b at w ≡ combined (operator op) (element_bits b at (slice_index (access.numbers c) e)) (element_bits b at v)
+  pub combines-whole : {c d : C} {e : ℕ} (v w : ℕ) {op : BitOp} → 0 < b → e < length (access.numbers c) → element_bits b at w ≡ combined (operator op) (element_bits b at (slice_index (access.numbers c) e)) (element_bits b at v)
       → access.numbers d ≡ slice_set (access.numbers c) e w → Costs access c d 1 1 → CombinesBits access b at c d (record { start = e * b; len = b }) (element_bits b at v) op op
-  combines-whole c d e v w op some inside made now cost =
+  combines-whole {c} {d} {e} v w {op} some inside made now cost =
       let xs = access.numbers c in
       let one : Window = record { start = e * b; len = b } in
       let bits : Writes b at xs (access.numbers d) one (element_bits b at w) = rw now (record { bits = set-element b at xs e w some inside; long = length-element_bits b at w; elements = length-set xs e w }) in
@@ -100,11 +101,11 @@ module _ {E C : Type 0} (access : Access C E) (b : ℕ) (at : ℕ → ℕ → �
       (Writes-is bits (made ∙ ap (λ (l : List Bool). combined (operator op) l (element_bits b at v)) (sym (list-whole b at xs e inside)))) cost
 
   -- Combining a part of an element with one load and one store combines the part's window.
-  pub combines-part : (c d : C) (part : Part) (v u w : ℕ) (op : BitOp) → 0 < b → HasPart b (access.numbers c) part → part.from < part.to
+  pub combines-part : {c d : C} {part : Part} (v u w : ℕ) {op : BitOp} → 0 < b → HasPart b (access.numbers c) part → part.from < part.to
       → element_bits b at u ≡ combined (operator op) (element_bits b at (slice_index (access.numbers c) part.element)) (element_bits b at v)
       → element_bits b at w ≡ write_at (element_bits b at (slice_index (access.numbers c) part.element)) part.from (slice_range (element_bits b at u) part.from part.to)
       → access.numbers d ≡ slice_set (access.numbers c) part.element w → Costs access c d 1 1 → CombinesBits access b at c d (part_window b part) (slice_range (element_bits b at v) part.from part.to) op op
-  combines-part c d part v u w op some has more new made now cost =
+  combines-part {c} {d} {part} v u w {op} some has more new made now cost =
       let xs = access.numbers c in
       let old = element_bits b at (slice_index xs part.element) in
       let long = length-element_bits b at (slice_index xs part.element) in

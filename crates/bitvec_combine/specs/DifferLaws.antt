@@ -76,10 +76,11 @@ module _ {E C : Type 0} (access : Access C E) (b : ℕ) (at : ℕ → ℕ → �
         reads = rw (← start) (record { numbers = before.reads.numbers; borrow = before.reads.borrow; loads = omega arith; stores = before.reads.stores });
       }
 
+module _ {E C : Type 0} {access : Access C E} {b : ℕ} {at : ℕ → ℕ → ℕ} where
   -- One load compares a window that lies in one element.
-  pub finds-one : (old new : C) (window : Window) (list : List Bool) (before found n : ℕ) → IsWidth b → 0 < window.len → window.start % b + window.len ≤ b → length list ≡ window.len → OnlyReads access old new 1
+  pub finds-one : {old new : C} {window : Window} {list : List Bool} {before found : ℕ} (n : ℕ) → IsWidth b → 0 < window.len → window.start % b + window.len ≤ b → length list ≡ window.len → OnlyReads access old new 1
       → found ≡ bit_or before n → (n == 0) ≡ same_bits (list_in b at (access.numbers old) window) list → FindsDifference access b at old new window list before found
-  finds-one old new window list before found n width some inside long reads is told =
+  finds-one {window = window} {before = before} n width some inside long reads is told =
       let one = touched-one b window.start window.len (width_some b width) some inside in
       record {
         value = rw (is, or_zero before n) (ap (λ (s : Bool). (before == 0) && s) told);
@@ -88,9 +89,9 @@ module _ {E C : Type 0} (access : Access C E) (b : ℕ) (at : ℕ → ℕ → �
       }
 
   -- Where no difference was found before, the result says whether the window has the bits beside it.
-  pub found_same : (old new : C) (ys : List ℕ) (left right : Window) (result : Bool) (before found : ℕ) → HasSpan b (access.numbers old) ys left right → FindsDifference access b at old new left (bits_beside b at ys left right) before found
+  pub found_same : {old new : C} {ys : List ℕ} {left right : Window} {result : Bool} {before found : ℕ} → HasSpan b (access.numbers old) ys left right → FindsDifference access b at old new left (bits_beside b at ys left right) before found
       → before ≡ 0 → result ≡ (found == 0) → result ≡ same_bits (list_in b at (access.numbers old) left) (list_in b at ys right)
-  found_same old new ys left right result before found span done none is =
+  found_same {ys = ys} {right = right} span done none is =
       is ∙ rw (none, padded-all {list = list_in b at ys right} (length-list at span.beside ∙ sym span.lengths)) at done.value
 
 -- ---- whole windows

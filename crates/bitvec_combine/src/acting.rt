@@ -16,11 +16,9 @@ pub trait Act<C: CellsRead>: Copy + Drop {
     // Whether nothing is left to be done.
     ghost stopped: { Self → Bool };
 
-    /// After how many whole elements of `bits` bits the act is asked whether it stops; 0 if it never does.
+    /// After how many whole elements the act is asked whether it stops; 0 if it never does.
     #[inline(always)]
-    fn span(_bits: usize) -> usize
-        requires { 0 < _bits }
-    {
+    fn span() -> usize {
         0
     }
 
@@ -71,7 +69,8 @@ pub trait Act<C: CellsRead>: Copy + Drop {
 /// How many spans of `span` elements are in `count` elements; none if `span` is 0.
 #[inline(always)]
 pub(crate) fn spans_in(count: usize, span: usize) -> usize
-    ensures { result ≡ count / span }
+    ensures is { result ≡ count / span }
+    ensures fits { result * span ≤ count }
 {
     count.checked_div(span).unwrap_or(0)
 }

@@ -26,7 +26,7 @@ impl<O: BitOrder> Phases<O> for Equal {
         _index: usize,
         carry: D::Elem,
     ) -> (D::Elem, D::Elem) {
-        (right.load(window.start / D::Elem::BITS as usize), carry)
+        (right.load(window.element::<D::Elem>()), carry)
     }
 
     #[inline(always)]

@@ -1,6 +1,6 @@
 //! An act on a window, given another one: on the bits before the first edge of an element, on whole elements, and on the
 //! bits behind them.
-ghost use Rattle.std.specs.Prelude.{◌≡◌, ◌+◌, ◌-◌, ◌/◌, ◌%◌, ◌==◌, ◌≤◌, false, slice_range};
+ghost use Rattle.std.specs.Prelude.{◌≡◌, ◌+◌, ◌-◌, ◌*◌, ◌/◌, ◌%◌, ◌==◌, ◌≤◌, false, slice_range};
 ghost use Rattle.bitvec_base.specs.Memory.{element_bits, list_in};
 ghost use Rattle.bitvec_base.specs.Parts.{HasPart, part_window};
 ghost use Rattle.bitvec_cells.specs.Access.{OnlyReads, OnlyReadsAtMost};
@@ -12,7 +12,7 @@ use crate::acting::{Act, spans_in};
 use crate::acting_equal::Equal;
 use crate::acting_shifted::Shifted;
 use crate::phases::Phases;
-use bitvec_base::{BitOrder, Part, Window, first_part};
+use bitvec_base::{BitOrder, Part, Window, elements_of};
 use bitvec_cells::CellsRead;
 use bitvec_store::BitStore;
 use bitvec_words::{Stretch, WordOrder, merged};
@@ -33,8 +33,7 @@ pub fn act<O: WordOrder, C: CellsRead, D: CellsRead<Elem = C::Elem>, A: Act<C>>(
     ensures done { A.Done O.at left.old left.new to (bits_beside C.Elem.BITS O.at (D.numbers right.old) to from) act.old act.new }
     ensures right { OnlyReadsAtMost D.CellsRead right.old right.new (touched_count C.Elem.BITS from.start from.len) }
 {
-    let bits = C::Elem::BITS as usize;
-    if to.start % bits == from.start % bits {
+    if to.phase::<C::Elem>() == from.phase::<C::Elem>() {
         act_phased::<O, C, D, A, Equal>(left, to, right, from, act);
     } else {
         act_phased::<O, C, D, A, Shifted>(left, to, right, from, act);
@@ -56,11 +55,10 @@ pub fn act_phased<O: BitOrder, C: CellsRead, D: CellsRead<Elem = C::Elem>, A: Ac
     ensures done { A.Done O.at left.old left.new to (bits_beside C.Elem.BITS O.at (D.numbers right.old) to from) act.old act.new }
     ensures right { OnlyReadsAtMost D.CellsRead right.old right.new (touched_count C.Elem.BITS from.start from.len) }
 {
-    let bits = C::Elem::BITS as usize;
-    let mut carry = P::first::<D>(right, from.start / bits);
+    let mut carry = P::first::<D>(right, from.element::<C::Elem>());
     let mut passed = 0;
-    if to.len <= bits || to.start % bits > 0 {
-        let head = first_part(bits, to);
+    if to.len <= C::Elem::BITS as usize || to.phase::<C::Elem>() > 0 {
+        let head = to.first_part::<C::Elem>();
         passed = head.len();
         let met = from.until(from.len - passed.min(from.len));
         carry = act_on_part::<O, C, D, A, P>(left, head, right, met, carry, act);
@@ -89,15 +87,13 @@ fn act_from_edge<O: BitOrder, C: CellsRead, D: CellsRead<Elem = C::Elem>, A: Act
     ensures done { A.Done O.at left.old left.new to (bits_beside C.Elem.BITS O.at (D.numbers right.old) to from) act.old act.new }
     ensures right { OnlyReadsAtMost D.CellsRead right.old right.new (touched_count C.Elem.BITS from.start from.len - held P.equal) }
 {
-    let bits = C::Elem::BITS as usize;
-    let stretch = Stretch {
-        first: to.start / bits,
-        source: from.start / bits,
-        skip: from.start % bits,
-        count: from.len / bits,
+    let met = Window {
+        len: from.len,
+        ..to
     };
+    let stretch = Stretch::of::<C::Elem>(met, from);
     let last = act_in_spans::<O, C, D, A, P>(left, stretch, right, carry, act);
-    let passed = stretch.count * bits;
+    let passed = whole_bits::<C::Elem>(from.len);
     if passed == from.len || act.stops() {
         return;
     }
@@ -107,6 +103,14 @@ fn act_from_edge<O: BitOrder, C: CellsRead, D: CellsRead<Elem = C::Elem>, A: Act
         to: to.len - passed,
     };
     act_on_part::<O, C, D, A, P>(left, tail, right, from.after(passed), last, act);
+}
+
+/// How many of that many bits make whole elements of type `T`.
+#[inline(always)]
+fn whole_bits<T: BitStore>(bits: usize) -> usize
+    ensures { result ≡ bits / T.BITS * T.BITS }
+{
+    elements_of::<T>(bits) * T::BITS as usize
 }
 
 /// Acts on whole elements, and asks after each span of them whether the act stops.
@@ -124,7 +128,7 @@ fn act_in_spans<O: BitOrder, C: CellsRead, D: CellsRead<Elem = C::Elem>, A: Act<
     ensures carried { A.stopped act.new ≡ false → IsCarried P.equal (D.numbers right.old) (stretch.source + stretch.count) (C.Elem.value result) }
     ensures right { OnlyReadsAtMost D.CellsRead right.old right.new stretch.count }
 {
-    let span = A::span(C::Elem::BITS as usize);
+    let span = A::span();
     let spans = spans_in(stretch.count, span);
     let mut last = carry;
     for step in 0..spans {

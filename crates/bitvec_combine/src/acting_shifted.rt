@@ -8,7 +8,7 @@ use bitvec_base::Window;
 use bitvec_cells::CellsRead;
 use bitvec_store::BitStore;
 use bitvec_words::{
-    Carried, Lanes, MANY_BITS, Stretch, Whole, WordOrder, at_known_skip, load_element_after,
+    Carried, Lanes, Stretch, Whole, WordOrder, at_known_skip, known_skip_pays, load_element_after,
     toward_end,
 };
 
@@ -47,7 +47,7 @@ impl<O: WordOrder> Phases<O> for Shifted {
             return act_in_turns::<O, C, D, A, Lanes>(left, stretch, right, carry, act, 2);
         }
         let (from, at, skip, count) = (stretch.first, stretch.source, stretch.skip, stretch.count);
-        if C::Elem::BITS <= u16::BITS && count >= MANY_BITS / C::Elem::BITS as usize {
+        if known_skip_pays::<C::Elem>(count) {
             return at_known_skip!(
                 skip,
                 act_carried::<O, C, D, A, Whole<_>>(left, from, right, at, skip, count, carry, act)

@@ -82,7 +82,7 @@ pub fn combine<O: WordOrder, C: Cells, D: CellsRead<Elem = C::Elem>>(
         combine_zeros::<O, C>(left, to, op);
         return;
     }
-    let passed = reached(C::Elem::BITS as usize, to, met);
+    let passed = reached::<C::Elem>(to, met);
     let first = to.until(to.len - passed);
     let other = from.until(from.len - met);
     act::<O, C, D, Apply>(left, first, right, other, &mut Apply { op });
@@ -91,24 +91,23 @@ pub fn combine<O: WordOrder, C: Cells, D: CellsRead<Elem = C::Elem>>(
 
 /// How many bits of a window stand up to the end of the element in which its first `met` bits end.
 #[inline(always)]
-fn reached(bits: usize, window: Window, met: usize) -> usize
-    requires bits { 0 < bits }
+fn reached<T: BitStore>(window: Window, met: usize) -> usize
     requires bound { met ≤ window.len }
     requires end { window.start + window.len < 2 ^ 64 }
     ensures bound { result ≤ window.len }
     ensures met { met ≤ result }
-    ensures inside { met < result → 0 < (window.start + met) % bits }
-    ensures reach { (window.start + met) % bits + (result - met) ≤ bits }
-    ensures edge { result < window.len → (window.start + result) % bits ≡ 0 }
+    ensures inside { met < result → 0 < (window.start + met) % T.BITS }
+    ensures reach { (window.start + met) % T.BITS + (result - met) ≤ T.BITS }
+    ensures edge { result < window.len → (window.start + result) % T.BITS ≡ 0 }
 {
     if met == window.len {
         return met;
     }
-    let end = (window.start + met) % bits;
-    if end == 0 {
+    let rest = window.after(met);
+    if rest.phase::<T>() == 0 {
         return met;
     }
-    met + (window.len - met).min(bits - end)
+    met + rest.first_part::<T>().len()
 }
 
 /// Replaces each bit of a window by what the operator makes of it and the one at its index in a

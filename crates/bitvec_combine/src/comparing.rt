@@ -10,7 +10,7 @@ ghost use Rattle.bitvec_combine.specs.DifferLaws.{finds-both, finds-early, finds
 ghost use Rattle.bitvec_combine.specs.Sides.{FindsDifference};
 
 use crate::{Act, Equal, Phases, Shifted, act_phased};
-use bitvec_base::{BitOrder, Part, Window};
+use bitvec_base::{BitOrder, Part, Window, elements_of};
 use bitvec_cells::CellsRead;
 use bitvec_store::BitStore;
 use bitvec_words::{WORD_BITS, WordOrder};
@@ -34,8 +34,8 @@ impl<T: BitStore, C: CellsRead<Elem = T>, const TESTED: usize> Act<C> for Differ
     ghost stopped = { λ s. not (T.value s.found == 0) };
 
     #[inline(always)]
-    fn span(bits: usize) -> usize {
-        (TESTED / bits).max(1)
+    fn span() -> usize {
+        elements_of::<T>(TESTED).max(1)
     }
 
     #[inline(always)]
@@ -110,8 +110,7 @@ pub fn equal<O: WordOrder, C: CellsRead, D: CellsRead<Elem = C::Elem>>(
     if window.len == 0 {
         return true;
     }
-    let bits = C::Elem::BITS as usize;
-    if window.start % bits == other.start % bits {
+    if window.phase::<C::Elem>() == other.phase::<C::Elem>() {
         return equal_unshifted::<O, C, D>(left, window, right, other);
     }
     equal_in_phases::<O, C, D, Shifted, BITS_PER_TEST>(left, window, right, other)
@@ -142,7 +141,6 @@ pub fn equal_unshifted<O: BitOrder, C: CellsRead, D: CellsRead<Elem = C::Elem>>(
 }
 
 /// Whether two windows have the same bits, with a test after each so many bits.
-#[tactic(auto, using(crate::specs::DifferLaws::found_same))]
 #[inline(always)]
 fn equal_in_phases<
     O: BitOrder,

@@ -14,29 +14,29 @@ module _ {E C : Type 0} (access : Access C E) where
   Costs-none a = record { borrow = refl; loads = omega arith; stores = omega arith }
 
   -- a load and a store more
-  pub Costs-next : (a b c d : C) (m n : ℕ) → Costs access a b m n → access.borrow c ≡ access.borrow b → access.loads c ≡ access.loads b + 1 → access.stores c ≡ access.stores b
+  pub Costs-next : {a b c d : C} {m n : ℕ} → Costs access a b m n → access.borrow c ≡ access.borrow b → access.loads c ≡ access.loads b + 1 → access.stores c ≡ access.stores b
       → access.borrow d ≡ access.borrow c → access.loads d ≡ access.loads c → access.stores d ≡ access.stores c + 1 → Costs access a d (m + 1) (n + 1)
-  Costs-next a b c d m n before borrow load none again same store = record { borrow = again ∙ borrow ∙ before.borrow; loads = omega arith; stores = omega arith }
+  Costs-next before borrow load none again same store = record { borrow = again ∙ borrow ∙ before.borrow; loads = omega arith; stores = omega arith }
 
   -- one behind the other
-  pub Costs-sum : (a b c : C) (m n p q k l : ℕ) → Costs access a b m n → Costs access b c p q → k ≡ m + p → l ≡ n + q → Costs access a c k l
-  Costs-sum a b c m n p q k l first second loads stores = record { borrow = second.borrow ∙ first.borrow; loads = omega arith; stores = omega arith }
+  pub Costs-sum : {a b c : C} {m n p q k l : ℕ} → Costs access a b m n → Costs access b c p q → k ≡ m + p → l ≡ n + q → Costs access a c k l
+  Costs-sum first second loads stores = record { borrow = second.borrow ∙ first.borrow; loads = omega arith; stores = omega arith }
 
   -- an element that waits is loaded before, or stored behind
-  pub Costs-around : (a b c d : C) (m k : ℕ) → access.borrow b ≡ access.borrow a → access.loads b ≡ access.loads a + 1 → access.stores b ≡ access.stores a → Costs access b c m m
+  pub Costs-around : {a b c d : C} {m k : ℕ} → access.borrow b ≡ access.borrow a → access.loads b ≡ access.loads a + 1 → access.stores b ≡ access.stores a → Costs access b c m m
       → access.borrow d ≡ access.borrow c → access.loads d ≡ access.loads c → access.stores d ≡ access.stores c + 1 → k ≡ 1 + m → Costs access a d k k
-  Costs-around a b c d m k borrow load none cost again same store all = record { borrow = again ∙ cost.borrow ∙ borrow; loads = omega arith; stores = omega arith }
+  Costs-around borrow load none cost again same store all = record { borrow = again ∙ cost.borrow ∙ borrow; loads = omega arith; stores = omega arith }
 
-  pub Costs-waiting : (a b c d : C) (m n k : ℕ) → access.borrow b ≡ access.borrow a → access.loads b ≡ access.loads a + 1 → access.stores b ≡ access.stores a → Costs access b c (m - 1) (m - 1) → Costs access c d (n - 1) n
+  pub Costs-waiting : {a b c d : C} {m n k : ℕ} → access.borrow b ≡ access.borrow a → access.loads b ≡ access.loads a + 1 → access.stores b ≡ access.stores a → Costs access b c (m - 1) (m - 1) → Costs access c d (n - 1) n
       → k ≡ m + (n - 1) → m ≡ 1 + (m - 1) → n ≡ 1 + (n - 1) → Costs access a d k k
-  Costs-waiting a b c d m n k borrow load none first second all some more = record { borrow = second.borrow ∙ first.borrow ∙ borrow; loads = omega arith; stores = omega arith }
+  Costs-waiting borrow load none first second all some more = record { borrow = second.borrow ∙ first.borrow ∙ borrow; loads = omega arith; stores = omega arith }
 
-  pub Costs-stored : (a b c : C) (m k : ℕ) → Costs access a b m m → access.borrow c ≡ access.borrow b → access.loads c ≡ access.loads b → access.stores c ≡ access.stores b + 1 → k - 1 ≡ m → k ≡ 1 + (k - 1) → Costs access a c (k - 1) k
-  Costs-stored a b c m k cost again same store all more = record { borrow = again ∙ cost.borrow; loads = omega arith; stores = omega arith }
+  pub Costs-stored : {a b c : C} {m k : ℕ} → Costs access a b m m → access.borrow c ≡ access.borrow b → access.loads c ≡ access.loads b → access.stores c ≡ access.stores b + 1 → k - 1 ≡ m → k ≡ 1 + (k - 1) → Costs access a c (k - 1) k
+  Costs-stored cost again same store all more = record { borrow = again ∙ cost.borrow; loads = omega arith; stores = omega arith }
 
   -- each element that n bits touch, or what may cost more
-  pub Costs-touched : (a b : C) (w s n m : ℕ) → IsWidth w → m ≡ n → Costs access a b (touched_count w s n) (touched_count w s n) → CostsAtMost access a b (edit_loads w true m) (write_stores w true m)
-  Costs-touched a b w s n m width same cost =
+  pub Costs-touched : {a b : C} {w : ℕ} (s : ℕ) {n m : ℕ} → IsWidth w → m ≡ n → Costs access a b (touched_count w s n) (touched_count w s n) → CostsAtMost access a b (edit_loads w true m) (write_stores w true m)
+  Costs-touched {w = w} s {n} width same cost =
       let some = width_some w width in
       let loads = touched_read w true s n some in
       let stores = touched_stored w true s n some in
@@ -50,6 +50,6 @@ module _ {E C : Type 0} (access : Access C E) where
   Costs-word a b c d step before read stored = record { borrow = stored.borrow ∙ read.borrow ∙ before.borrow; loads = omega arith; stores = omega arith }
 
   -- bits at two edges, which are loaded first and stored last, and whole elements
-  pub Costs-edges : (a b c d e f : C) (m n k late h j loads stores : ℕ) → OnlyReads access a b m → OnlyReads access b c n → CostsAtMost access c d (k + 1 + late) (k + late) → CostsAtMost access d e h h → h ≤ 1 → CostsAtMost access e f j j → j ≤ 1
+  pub Costs-edges : {a b c d e f : C} {m n : ℕ} (k late : ℕ) {h j loads stores : ℕ} → OnlyReads access a b m → OnlyReads access b c n → CostsAtMost access c d (k + 1 + late) (k + late) → CostsAtMost access d e h h → h ≤ 1 → CostsAtMost access e f j j → j ≤ 1
       → m + n + (k + 1 + late) + 2 ≤ loads → k + late + h + j ≤ stores → CostsAtMost access a f loads stores
-  Costs-edges a b c d e f m n k late h j loads stores front back whole head few tail last read written = record { borrow = tail.borrow ∙ head.borrow ∙ whole.borrow ∙ back.borrow ∙ front.borrow; loads = omega arith; stores = omega arith }
+  Costs-edges k late front back whole head few tail last read written = record { borrow = tail.borrow ∙ head.borrow ∙ whole.borrow ∙ back.borrow ∙ front.borrow; loads = omega arith; stores = omega arith }

@@ -18,10 +18,10 @@ use Rattle.bitvec_words.specs.Moves.{Copies, SwapsWindows}
 -- ---- numbers
 
 -- the element of a place in a window, where the memory may have changed
-pub place-element : {b w : ℕ} {xs : List ℕ} (ys : List ℕ) {window : Window} (e : ℕ) → IsWidth b → w ≡ b → HasWindow b xs window → e < window.start + window.len → length ys ≡ length xs → e / w < length ys
-place-element {b} {w} {xs} ys e width is has below kept =
+pub place-element : {b : ℕ} {xs : List ℕ} (ys : List ℕ) {window : Window} (e : ℕ) → IsWidth b → HasWindow b xs window → e < window.start + window.len → length ys ≡ length xs → e / b < length ys
+place-element {b} {xs} ys e width has below kept =
     let all : e < length xs * b = omega arith in
-    rw (is, kept) (div_below e b (length xs) (width_some b width) all)
+    rw kept (div_below e b (length xs) (width_some b width) all)
 
 pub head-order : (w : ℕ) (window : Window) (part : Part) → part ≡ first_part_of w window → part.from ≤ part.to
 head-order w window part is = rw is (omega arith)

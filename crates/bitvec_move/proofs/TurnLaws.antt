@@ -53,14 +53,14 @@ turn-left true b at old now first source count k w has towards fits moved =
     (omega arith) moved
 
 -- then k + w are moved
-pub CopiesSome-turn : (later : Bool) (b : ℕ) (at : ℕ → ℕ → ℕ) (old now new : List ℕ) (first source count k w : ℕ) → HasSpan b old old (elements_window b first count) (elements_window_from b source 0 count) → IsToward later first source → k + w ≤ count
+pub CopiesSome-turn : (later : Bool) {b : ℕ} {at : ℕ → ℕ → ℕ} {old now new : List ℕ} (first source count k w : ℕ) → HasSpan b old old (elements_window b first count) (elements_window_from b source 0 count) → IsToward later first source → k + w ≤ count
     → CopiesSome later b at old now first source 0 count k → CopiesElements b at now new now (first + turn_place later k w count) (source + turn_place later k w count) 0 w
     → CopiesSome later b at old new first source 0 count (k + w)
-CopiesSome-turn false b at old now new first source count k w has towards fits before after =
+CopiesSome-turn false {b} {at} {old} {now} {new} first source count k w has towards fits before after =
     let place : k + w - w ≡ k = omega arith in
     CopiesSome-part false {at = at} {mid = now} {new = new} first source 0 count k (k + w) w {list = list_in b at now (elements_window_from b (source + k) 0 w)} has (omega arith) (le_refl (k + w)) (omega arith) fits before
     (rw place after) (rw place (turn-left false b at old now first source count k w has towards fits before))
-CopiesSome-turn true b at old now new first source count k w has towards fits before after =
+CopiesSome-turn true {b} {at} {old} {now} {new} first source count k w has towards fits before after =
     CopiesSome-part true {at = at} {mid = now} {new = new} first source 0 count k (k + w) w {list = list_in b at now (elements_window_from b (source + (count - (k + w))) 0 w)} has (omega arith) (le_refl (k + w)) (omega arith) fits before
     after (turn-left true b at old now first source count k w has towards fits before)
 

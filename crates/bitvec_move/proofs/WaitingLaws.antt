@@ -12,6 +12,7 @@ use Rattle.bitvec_base.specs.PartLaws.{length-part, part-write}
 use Rattle.bitvec_base.specs.Window.{write_at}
 use Rattle.bitvec_base.specs.WritesLaws.{HasWindow-kept, Writes-is, Writes-join}
 use Rattle.bitvec_words.specs.Elements.{elements_window, elements_window_from}
+use Rattle.bitvec_words.specs.Moves.{HasSkippedElements}
 use Rattle.bitvec_words.specs.FieldLaws.{Writes-none, element_of, list-across, list-both, list-front, list-whole}
 use Rattle.bitvec_words.specs.TouchedLaws.{last-first, last-next, next-inside}
 use Rattle.bitvec_move.proofs.SwapLaws.{Writes-exchanged, Writes-set, beside-element, beside-element_from, first_elements, next_element}
@@ -150,41 +151,41 @@ waiting-two b at xs e skip n m p w u list other some has next below over fits lo
     Writes-join
     (HasWindow-set e p has) refl (omega arith) (omega arith) first second
 
-pub waiting-beyond : {b : ℕ} {at : ℕ → ℕ → ℕ} {xs : List ℕ} {window : Window} {end : ℕ} (p v w t u : ℕ) → 0 < b → HasWindow b xs window
-    → end ≡ window.start % b + window.len → window.len ≤ b → b < end
+pub waiting-beyond : {b : ℕ} {at : ℕ → ℕ → ℕ} {xs : List ℕ} {window : Window} (m p v w t u : ℕ) → 0 < b → HasWindow b xs window
+    → b + m ≡ window.start % b + window.len → window.len ≤ b → b < window.start % b + window.len
     → element_bits b at w ≡ write_at (element_bits b at p) (window.start % b) (slice_range (element_bits b at v) (window.start % b) b)
-    → element_bits b at u ≡ write_at (element_bits b at (slice_index xs (window.start / b + 1))) 0 (slice_range (element_bits b at t) 0 (end - b))
+    → element_bits b at u ≡ write_at (element_bits b at (slice_index xs (window.start / b + 1))) 0 (slice_range (element_bits b at t) 0 m)
     → Writes b at (slice_set xs (window.start / b) p) (slice_set (slice_set xs (window.start / b) w) ((window.start + window.len - 1) / b) u) window
-    (slice_range (element_bits b at v) (window.start % b) b ++ slice_range (element_bits b at t) 0 (end - b))
-waiting-beyond {b} {at} {xs} {window} {end} p v w t u some has is fits over wrote wrote_next =
+    (slice_range (element_bits b at v) (window.start % b) b ++ slice_range (element_bits b at t) 0 m)
+waiting-beyond {b} {at} {xs} {window} m p v w t u some has is fits over wrote wrote_next =
     let place = div-add-mod' window.start b in
     let head = mod_below window.start b some in
     let has' : HasWindow b xs (record { start = window.start / b * b + window.start % b; len = window.len }) = rw place has in
-    rw (last-next b window.start window.len some fits (omega arith))
+    rw (last-next b window.start window.len some fits over)
     (Writes-same (record { start = window.start / b * b + window.start % b; len = window.len }) window (sym place) refl
-    (waiting-two b at xs (window.start / b) (window.start % b) window.len (end - b) p w u _ _ some has' (next-inside b xs window has (omega arith)) head
-    (omega arith) (omega arith) (length-part b at v (window.start % b) b (omega arith)) (let long = length-part b at t 0 (end - b) (omega arith) in omega arith) wrote wrote_next))
+    (waiting-two b at xs (window.start / b) (window.start % b) window.len m p w u _ _ some has' (next-inside b xs window has over) head
+    is (omega arith) (length-part b at v (window.start % b) b (omega arith)) (let long = length-part b at t 0 m (omega arith) in omega arith) wrote wrote_next))
 
 -- ---- whole elements exchanged with the bits from an index of an element on
 
 -- none
-pub across-none : {b : ℕ} {at : ℕ → ℕ → ℕ} {xs : List ℕ} (ys : List ℕ) (source skip first count p : ℕ)
-    → HasWindow b xs (elements_window_from b source skip count)
-    → Writes b at (slice_set xs source p) (slice_set xs (source + 0) p) (elements_window_from b source skip 0) (list_in b at ys (elements_window b first 0))
-across-none {b} {at} {xs} ys source skip first count p has =
-    let start = has.within.start in
+pub across-none : {b : ℕ} {at : ℕ → ℕ → ℕ} {old xs : List ℕ} {first source skip count : ℕ} (p : ℕ) → HasSkippedElements b old xs first source skip count
+    → Writes b at (slice_set xs source p) (slice_set xs (source + 0) p) (elements_window_from b source skip 0) (list_in b at old (elements_window b first 0))
+across-none {b} {at} {old} {xs} {first} {source} {skip} p skipped =
+    let has = skipped.span.beside in
     let nothing : 0 * b ≡ 0 = omega arith in
     let same : source + 0 ≡ source = omega arith in
-    let here : HasWindow b xs (elements_window_from b source skip 0) = record { fits = has.fits; within = record { start = start; len = omega arith } } in
+    let here : HasWindow b xs (elements_window_from b source skip 0) = record { fits = has.fits; within = record { start = has.within.start; len = omega arith } } in
     rw same
-    (Writes-none at ys (elements_window b first 0) (HasWindow-set source p here) nothing nothing)
+    (Writes-none at old (elements_window b first 0) (HasWindow-set source p here) nothing nothing)
 
 -- the element behind the next one that is exchanged
-pub across-next : {b : ℕ} {at : ℕ → ℕ → ℕ} {xs : List ℕ} (ys : List ℕ) (source skip count step p q : ℕ) {list : List Bool} → 0 < skip
-    → HasWindow b xs (elements_window_from b source skip count) → step < count
+pub across-next : {b : ℕ} {at : ℕ → ℕ → ℕ} {old xs : List ℕ} (ys : List ℕ) {first source skip count : ℕ} (step p q : ℕ) {list : List Bool} → HasSkippedElements b old xs first source skip count → step < count
     → Writes b at (slice_set xs source p) (slice_set ys (source + step) q) (elements_window_from b source skip step) list
     → source + step + 1 < length ys
-across-next {b} {at} {xs} ys source skip count step p q some has more before =
+across-next {b} {xs = xs} ys {source = source} {skip} step p q skipped more before =
+    let has = skipped.span.beside in
+    let some = skipped.inside in
     let order = mul-le-mul_left b more in
     let now = length-set ys (source + step) q in
     let old = length-set xs source p in
@@ -198,25 +199,25 @@ first_bits b xs source skip count step p has more =
     HasWindow-set source p (HasWindow-part (elements_window_from b source skip (step + 1)) has (omega arith) (omega arith))
 
 -- one more
-pub across-element : {b : ℕ} {at : ℕ → ℕ → ℕ} {old mid xs : List ℕ} (ys : List ℕ) (first source skip count step p q v : ℕ) {list : List Bool} → 0 < b
-    → 0 < skip → skip < b
-    → HasWindow b old (elements_window b first count) → HasWindow b xs (elements_window_from b source skip count) → step < count
+pub across-element : {b : ℕ} {at : ℕ → ℕ → ℕ} {old mid xs : List ℕ} (ys : List ℕ) {first source skip count : ℕ} (step p q v : ℕ) {list : List Bool} → 0 < b
+    → HasSkippedElements b old xs first source skip count → step < count
     → element_bits b at v ≡ drop skip (element_bits b at q) ++ take skip (element_bits b at (slice_index ys (source + step + 1)))
     → Writes b at old mid (elements_window b first step) (list_in b at (slice_set xs source p) (elements_window_from b source skip step))
     → Writes b at (slice_set xs source p) (slice_set ys (source + step) q) (elements_window_from b source skip step) list
     → Writes b at old (slice_set mid (first + step) v) (elements_window b first (step + 1))
     (list_in b at (slice_set xs source p) (elements_window_from b source skip (step + 1)))
-across-element {b} {at} {old} {mid} {xs} ys first source skip count step p q v {list} some inside below has its more joined before kept =
+across-element {b} {at} {old} {mid} {xs} ys {first} {source} {skip} {count} step p q v {list} some skipped more joined before kept =
+    let has = skipped.span.window in
     Writes-exchanged (slice_set ys (source + step) q) list
-    (first_elements first count step has more) (first_bits b xs source skip count step p its more)
+    (first_elements first count step has more) (first_bits b xs source skip count step p skipped.span.beside more)
     (beside-element b first step) (beside-element_from b source skip step) before
     (Writes-is
     (Writes-set b at mid (first + step) v some (next_element mid first count step some has more before.elements))
-    (joined ∙ waiting-both b at ys (source + step) skip q below (across-next ys source skip count step p q inside its more kept)))
+    (joined ∙ waiting-both b at ys (source + step) skip q skipped.bound (across-next ys step p q skipped more kept)))
     kept
 
-pub across-bits : {b : ℕ} {at : ℕ → ℕ → ℕ} {old mid xs : List ℕ} (ys : List ℕ) (first source skip count step p q w u : ℕ) → 0 < b → 0 < skip → skip < b
-    → HasWindow b old (elements_window b first count) → HasWindow b xs (elements_window_from b source skip count) → step < count
+pub across-bits : {b : ℕ} {at : ℕ → ℕ → ℕ} {old mid xs : List ℕ} (ys : List ℕ) {first source skip count : ℕ} (step p q w u : ℕ) → 0 < b
+    → HasSkippedElements b old xs first source skip count → step < count
     → element_bits b at w ≡ write_at (element_bits b at q) skip (take (b - skip) (element_bits b at (slice_index mid (first + step))))
     → element_bits b at u ≡ write_at (element_bits b at (slice_index ys (source + step + 1))) 0 (drop (b - skip) (element_bits b at (slice_index mid (first + step))))
     → Writes b at old mid (elements_window b first step) (list_in b at (slice_set xs source p) (elements_window_from b source skip step))
@@ -224,10 +225,13 @@ pub across-bits : {b : ℕ} {at : ℕ → ℕ → ℕ} {old mid xs : List ℕ} (
     (list_in b at old (elements_window b first step))
     → Writes b at (slice_set xs source p) (slice_set (slice_set ys (source + step) w) (source + (step + 1)) u) (elements_window_from b source skip (step + 1))
     (list_in b at old (elements_window b first (step + 1)))
-across-bits {b} {at} {old} {mid} {xs} ys first source skip count step p q w u some inside below has its more stored waits kept before =
+across-bits {b} {at} {old} {mid} {xs} ys {first} {source} {skip} {count} step p q w u some skipped more stored waits kept before =
+    let has = skipped.span.window in
+    let its = skipped.span.beside in
+    let below = skipped.bound in
     let element = element_bits b at (slice_index mid (first + step)) in
     let long = length-element_bits b at (slice_index mid (first + step)) in
-    let next = across-next ys source skip count step p q inside its more before in
+    let next = across-next ys step p q skipped more before in
     let place : source + (step + 1) ≡ source + step + 1 = omega arith in
     let now = length-set ys (source + step) q in
     let old_long = length-set xs source p in

@@ -108,9 +108,9 @@ moved-apart : (later : Bool) (b first source count k r : ℕ) → IsToward later
 moved-apart false b first source count k r towards more low high = inl (let order : (first + k) * b ≤ (source + r) * b = mul-le-mul_right b (omega arith) in omega arith)
 moved-apart true b first source count k r towards more low high = inr (let order : (source + r + 1) * b ≤ (first + (count - k)) * b = mul-le-mul_right b (omega arith) in omega arith)
 
-pub CopiesSome-kept : (later : Bool) {b : ℕ} (at : ℕ → ℕ → ℕ) {old : List ℕ} (mid : List ℕ) (first source skip count k r : ℕ) → IsToward later first source → HasWindow b old (elements_window b first count) → k < count
+pub CopiesSome-kept : (later : Bool) {b : ℕ} {at : ℕ → ℕ → ℕ} {old mid : List ℕ} (first source skip count k r : ℕ) → IsToward later first source → HasWindow b old (elements_window b first count) → k < count
     → nth_place later k count ≤ r → r ≤ waiting_place later (k + 1) count → CopiesSome later b at old mid first source skip count k → element_bits b at (slice_index mid (source + r)) ≡ element_bits b at (slice_index old (source + r))
-CopiesSome-kept later {b} at {old} mid first source skip count k r towards has more low high moved =
+CopiesSome-kept later {b} {at} {old} {mid} first source skip count k r towards has more low high moved =
     element-apart (source + r) (moved-window later b old first count k has (omega arith)) (moved-apart later b first source count k r towards more low high) moved
 
 -- the place of the w elements that are stored last, where m of n are moved then
@@ -166,10 +166,10 @@ nth-part : (later : Bool) (k n : ℕ) → part_place later 1 (k + 1) n ≡ nth_p
 nth-part false k n = omega arith
 nth-part true k n = refl
 
-pub CopiesSome-more : (later : Bool) {b : ℕ} (at : ℕ → ℕ → ℕ) {old : List ℕ} (mid : List ℕ) (first source skip count k v : ℕ) → 0 < b → HasSpan b old old (elements_window b first count) (elements_window_from b source skip count) → k < count
+pub CopiesSome-more : (later : Bool) {b : ℕ} {at : ℕ → ℕ → ℕ} {old mid : List ℕ} (first source skip count k v : ℕ) → 0 < b → HasSpan b old old (elements_window b first count) (elements_window_from b source skip count) → k < count
     → element_bits b at v ≡ list_in b at old (record { start = (source + nth_place later k count) * b + skip; len = b }) → CopiesSome later b at old mid first source skip count k
     → CopiesSome later b at old (slice_set mid (first + nth_place later k count) v) first source skip count (k + 1)
-CopiesSome-more later {b} at {old} mid first source skip count k v some has more same before =
+CopiesSome-more later {b} {at} {old} {mid} first source skip count k v some has more same before =
     let place = nth-part later k count in
     let stored = Writes-set b at mid (first + nth_place later k count) v some (next_element mid first count _ some has.window (nth-below later k count more) before.elements) in
     CopiesSome-part later {at = at} {mid = mid} first source skip count k (k + 1) 1 {list = element_bits b at v} has (omega arith) (omega arith) (omega arith) (omega arith) before

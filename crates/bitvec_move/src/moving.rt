@@ -9,12 +9,13 @@ ghost use Rattle.bitvec_words.specs.Elements.{elements_window, elements_window_f
 ghost use Rattle.bitvec_words.specs.Moves.{Copies, CopiesElements, HasSkippedElements, IsToward, late_words, nth_place, waiting_place};
 
 use crate::moving_words::{goes_by_words, shift_words};
-use crate::{head_of, width};
+use crate::{head_of, whole_bits};
 use bitvec_base::{BitOrder, Window};
 use bitvec_cells::{Cells, CellsRead};
 use bitvec_store::BitStore;
 use bitvec_words::{
-    Carried, Lanes, MANY_BITS, Stretch, Whole, WordOrder, at_known_skip, load_short, store_short,
+    Carried, Lanes, Stretch, Whole, WordOrder, at_known_skip, known_skip_pays, load_short,
+    store_short,
 };
 
 /// How many whole elements are moved in a turn: so many that the compiler makes vectors of them before it unrolls the turn. By
@@ -37,11 +38,10 @@ pub(crate) fn move_to<O: WordOrder, C: Cells, const LATER: bool>(
     ensures cost { let late = late_words C.Elem.BITS to.len in
         CostsAtMost C.CellsRead cells.old cells.new (touched_count C.Elem.BITS from.start from.len + 4 + late) (touched_count C.Elem.BITS to.start to.len + late) }
 {
-    let bits = width::<C::Elem>();
     let (_, head) = head_of::<C::Elem>(to);
     let (rest, behind) = (to.after(head), from.after(head));
-    let moved = Stretch::of(bits, rest, behind);
-    let passed = moved.count * bits;
+    let moved = Stretch::of::<C::Elem>(rest, behind);
+    let passed = whole_bits::<C::Elem>(rest.len);
     let front = load_short::<O, C>(cells, from.until(from.len - head));
     let back = load_short::<O, C>(cells, behind.after(passed));
     move_elements::<O, C, LATER>(cells, moved);
@@ -88,7 +88,7 @@ fn shift_elements<O: WordOrder, C: Cells, const LATER: bool>(
 {
     if C::Elem::BITS == u128::BITS {
         shift_carried::<O, C, Lanes, LATER>(cells, first, source, skip, count, waiting);
-    } else if C::Elem::BITS <= u16::BITS && count >= MANY_BITS / C::Elem::BITS as usize {
+    } else if known_skip_pays::<C::Elem>(count) {
         at_known_skip!(
             skip,
             shift_carried::<O, C, Whole<C::Elem>, LATER>(cells, first, source, skip, count, waiting)

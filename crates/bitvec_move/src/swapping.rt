@@ -7,7 +7,6 @@ ghost use Rattle.bitvec_words.specs.Moves.{SwapsWindows};
 
 use crate::swapping_equal::swap_equal;
 use crate::swapping_shifted::swap_shifted;
-use crate::width;
 use bitvec_base::{BitOrder, Window};
 use bitvec_cells::{Cells, CellsRead};
 use bitvec_store::BitStore;
@@ -31,8 +30,7 @@ pub fn swap<O: WordOrder, C: Cells, D: Cells + CellsRead<Elem = C::Elem>>(
     if left_window.len == 0 {
         return;
     }
-    let bits = width::<C::Elem>();
-    if left_window.start % bits == right_window.start % bits {
+    if left_window.phase::<C::Elem>() == right_window.phase::<C::Elem>() {
         swap_equal::<O, C, D>(left, left_window, right, right_window);
     } else {
         swap_shifted::<O, C, D>(left, left_window, right, right_window);

@@ -7,8 +7,8 @@ ghost use Rattle.bitvec_cells.specs.Cost.{touched_count};
 ghost use Rattle.bitvec_words.specs.Elements.{elements_window};
 ghost use Rattle.bitvec_words.specs.Moves.{SwapsWindows};
 
-use crate::{head_of, width};
-use bitvec_base::{BitOrder, Part, Window, tail_part, whole_elements};
+use crate::head_of;
+use bitvec_base::{BitOrder, Part, Window};
 use bitvec_cells::{Cells, CellsRead};
 use bitvec_store::BitStore;
 use bitvec_words::merged;
@@ -29,13 +29,12 @@ pub fn swap_equal<O: BitOrder, C: Cells, D: Cells + CellsRead<Elem = C::Elem>>(
     ensures cost { let each = touched_count C.Elem.BITS left_window.start left_window.len in Costs C.CellsRead left.old left.new each each }
     ensures right_cost { let each = touched_count C.Elem.BITS right_window.start right_window.len in Costs D.CellsRead right.old right.new each each }
 {
-    let bits = width::<C::Elem>();
-    if left_window.len > bits && left_window.start % bits == 0 {
+    if left_window.len > C::Elem::BITS as usize && left_window.phase::<C::Elem>() == 0 {
         swap_aligned::<O, C, D>(left, left_window, right, right_window);
         return;
     }
     let (head, passed) = head_of::<C::Elem>(left_window);
-    swap_part::<O, C, D>(left, head, right, right_window.start / bits);
+    swap_part::<O, C, D>(left, head, right, right_window.element::<C::Elem>());
     if passed == left_window.len {
         return;
     }
@@ -58,11 +57,10 @@ fn swap_aligned<O: BitOrder, C: Cells, D: Cells + CellsRead<Elem = C::Elem>>(
     ensures cost { let each = touched_count C.Elem.BITS left_window.start left_window.len in Costs C.CellsRead left.old left.new each each }
     ensures right_cost { let each = touched_count C.Elem.BITS right_window.start right_window.len in Costs D.CellsRead right.old right.new each each }
 {
-    let bits = width::<C::Elem>();
-    let (first, count) = whole_elements(bits, left_window);
-    let source = right_window.start / bits;
+    let (first, count) = left_window.whole_elements::<C::Elem>();
+    let source = right_window.element::<C::Elem>();
     swap_whole::<O, C, D>(left, first, right, source, count);
-    let tail = tail_part(bits, left_window);
+    let tail = left_window.tail_part::<C::Elem>();
     if tail.to == 0 {
         return;
     }

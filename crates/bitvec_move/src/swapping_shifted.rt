@@ -7,12 +7,12 @@ ghost use Rattle.bitvec_cells.specs.Access.{Costs};
 ghost use Rattle.bitvec_cells.specs.Cost.{touched_count};
 ghost use Rattle.bitvec_words.specs.Moves.{HasPartSpan, HasSkippedElements, HasSkippedSpan, SwapsWindows, SwapsElements};
 
-use crate::{head_of, width};
-use bitvec_base::{BitOrder, Part, Window, tail_part};
+use crate::{bits_from, head_of, last_element, whole_bits};
+use bitvec_base::{BitOrder, Part, Window};
 use bitvec_cells::{Cells, CellsRead};
 use bitvec_store::BitStore;
 use bitvec_words::{
-    MANY_BITS, Stretch, WordOrder, at_known_skip, joined, merged, toward_end, toward_start,
+    Stretch, WordOrder, at_known_skip, joined, known_skip_pays, merged, toward_end, toward_start,
 };
 
 /// Exchanges two windows whose first bits have different indices in their elements. Condition: as
@@ -31,13 +31,12 @@ pub(crate) fn swap_shifted<O: WordOrder, C: Cells, D: Cells + CellsRead<Elem = C
     ensures cost { let each = touched_count C.Elem.BITS left_window.start left_window.len in Costs C.CellsRead left.old left.new each each }
     ensures right_cost { let each = touched_count C.Elem.BITS right_window.start right_window.len in Costs D.CellsRead right.old right.new each each }
 {
-    let bits = width::<C::Elem>();
     let (head, passed) = head_of::<C::Elem>(left_window);
-    let waiting = right.load(right_window.start / bits);
+    let waiting = right.load(right_window.element::<C::Elem>());
     let met = right_window.until(right_window.len - passed);
     let last = swap_waiting::<O, C, D>(left, head, right, met, waiting);
     if passed == left_window.len {
-        right.store((met.start + met.len - 1) / bits, last);
+        right.store(last_element::<C::Elem>(met), last);
         return;
     }
     let rest = left_window.after(passed);
@@ -62,17 +61,16 @@ fn swap_rest<O: WordOrder, C: Cells, D: Cells + CellsRead<Elem = C::Elem>>(
     ensures cost { let each = touched_count C.Elem.BITS left_window.start left_window.len in Costs C.CellsRead left.old left.new each each }
     ensures right_cost { let each = touched_count C.Elem.BITS right_window.start right_window.len in Costs D.CellsRead right.old right.new (each - 1) each }
 {
-    let bits = width::<C::Elem>();
-    let stretch = Stretch::of(bits, left_window, right_window);
+    let stretch = Stretch::of::<C::Elem>(left_window, right_window);
     let last = swap_across::<O, C, D>(left, right, stretch, waiting);
-    let tail = tail_part(bits, left_window);
+    let tail = left_window.tail_part::<C::Elem>();
     if tail.to == 0 {
         right.store(stretch.source + stretch.count, last);
         return;
     }
-    let behind = right_window.after(stretch.count * bits);
+    let behind = right_window.after(whole_bits::<C::Elem>(left_window.len));
     let end = swap_waiting::<O, C, D>(left, tail, right, behind, last);
-    right.store((behind.start + behind.len - 1) / bits, end);
+    right.store(last_element::<C::Elem>(behind), end);
 }
 
 /// Exchanges `count` whole elements with the bits at the index `skip` of an element on, each with
@@ -92,7 +90,7 @@ fn swap_across<O: WordOrder, C: Cells, D: Cells + CellsRead<Elem = C::Elem>>(
     ensures right_cost { Costs D.CellsRead right.old right.new stretch.count stretch.count }
 {
     let (first, source, skip, count) = (stretch.first, stretch.source, stretch.skip, stretch.count);
-    if C::Elem::BITS <= u16::BITS && count >= MANY_BITS / C::Elem::BITS as usize {
+    if known_skip_pays::<C::Elem>(count) {
         return at_known_skip!(
             skip,
             swap_each::<O, C, D>(left, first, right, source, waiting, skip, count)
@@ -118,7 +116,7 @@ fn swap_each<O: WordOrder, C: Cells, D: Cells + CellsRead<Elem = C::Elem>>(
     ensures cost { Costs C.CellsRead left.old left.new count count }
     ensures right_cost { Costs D.CellsRead right.old right.new count count }
 {
-    let rest = C::Elem::BITS as usize - skip;
+    let rest = bits_from::<C::Elem>(skip);
     let mut last = waiting;
     // what a pass needs of `last` is in the two elements that were loaded before it, and is taken
     // from there: so the passes can go many at once
@@ -153,12 +151,11 @@ fn swap_waiting<O: WordOrder, C: Cells, D: Cells + CellsRead<Elem = C::Elem>>(
     ensures cost { Costs C.CellsRead left.old left.new 1 1 }
     ensures right_cost { let more = touched_count C.Elem.BITS from.start from.len - 1 in Costs D.CellsRead right.old right.new more more }
 {
-    let bits = width::<C::Elem>();
-    let (index, skip) = (from.start / bits, from.start % bits);
+    let (index, skip) = (from.element::<C::Elem>(), from.phase::<C::Elem>());
+    let room = bits_from::<C::Elem>(skip);
     let element = left.load(part.element);
     let moved = toward_start::<O, C::Elem>(element, part.from);
-    let end = skip + from.len;
-    if end <= bits {
+    if from.len <= room {
         let front = toward_start::<O, C::Elem>(waiting, skip);
         let new = toward_end::<O, C::Elem>(front, part.from);
         left.store(
@@ -166,7 +163,7 @@ fn swap_waiting<O: WordOrder, C: Cells, D: Cells + CellsRead<Elem = C::Elem>>(
             merged::<O, C::Elem>(element, new, part.from, part.to),
         );
         let back = toward_end::<O, C::Elem>(moved, skip);
-        return merged::<O, C::Elem>(waiting, back, skip, end);
+        return merged::<O, C::Elem>(waiting, back, skip, skip + from.len);
     }
     let next = right.load(index + 1);
     let front = joined::<O, C::Elem>(waiting, next, skip);
@@ -176,7 +173,10 @@ fn swap_waiting<O: WordOrder, C: Cells, D: Cells + CellsRead<Elem = C::Elem>>(
         merged::<O, C::Elem>(element, new, part.from, part.to),
     );
     let back = toward_end::<O, C::Elem>(moved, skip);
-    right.store(index, merged::<O, C::Elem>(waiting, back, skip, bits));
-    let carried = toward_start::<O, C::Elem>(moved, bits - skip);
-    merged::<O, C::Elem>(next, carried, 0, end - bits)
+    right.store(
+        index,
+        merged::<O, C::Elem>(waiting, back, skip, skip + room),
+    );
+    let carried = toward_start::<O, C::Elem>(moved, room);
+    merged::<O, C::Elem>(next, carried, 0, from.len - room)
 }

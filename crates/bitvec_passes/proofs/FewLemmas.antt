@@ -1,5 +1,5 @@
 -- Windows of at most 64 bits as words: of one element or two, and across the elements of a word.
-use Rattle.std.specs.Prelude.{◌≡◌, ◌≢◌, ℕ, ◌+◌, ◌-◌, ◌/◌, ◌%◌, ◌^◌, ◌<◌, ◌≤◌, ◌==◌, Bool, false, cond, List, ◌++◌, length, replicate, slice_index, slice_range, take, bit_or, count_by, count_ones, refl}
+use Rattle.std.specs.Prelude.{◌≡◌, ◌≢◌, ℕ, ◌+◌, ◌-◌, ◌*◌, ◌/◌, ◌%◌, ◌^◌, ◌<◌, ◌≤◌, ◌==◌, Bool, false, cond, List, ◌++◌, length, replicate, slice_index, slice_range, take, bit_or, count_by, count_ones, refl}
 use Rattle.std.proofs.Common.{arith, sym, ◌∙◌, ap, inl, inr, ⊎_elim, length-append, zero, suc}
 use Rattle.std.proofs.lemmas.Bool.{cases_lt}
 use Rattle.std.proofs.lemmas.Bool.Decides.{Decides-eqb, Decides-like, same_from_decides}
@@ -62,12 +62,6 @@ few-touched b s (suc n) some short =
 -- ---- 64 bits that begin inside an element narrower than a word
 
 module _ (b : ℕ) (window : Window) (width : IsWidth b) (narrow : b < 64) (size : window.len ≡ 64) (inside : window.start % b ≢ 0) where
-  abbrev first : ℕ
-  first = window.start / b
-
-  abbrev skip : ℕ
-  skip = window.start % b
-
   pub touched-across : touched_count b window.start window.len ≡ 64 / b + 1
   touched-across =
       let some = width_some b width in
@@ -77,19 +71,19 @@ module _ (b : ℕ) (window : Window) (width : IsWidth b) (narrow : b < 64) (size
       rw size (omega arith)
 
   -- the elements of a word get what the first has before the window, and the word's first bits; the next gets the others
-  pub stored-across : (at : ℕ → ℕ → ℕ) (old mid new : List ℕ) (head kept moved behind word : ℕ) → HasWindow b old window → head ≡ slice_index old first
+  pub stored-across : (at : ℕ → ℕ → ℕ) {old mid new : List ℕ} {first skip head : ℕ} (kept moved behind word : ℕ) → first ≡ window.start / b → skip ≡ window.start % b → HasWindow b old window → head ≡ slice_index old first
       → element_bits 64 at kept ≡ write_at (replicate 64 false) 0 (slice_range (element_bits b at head) 0 (0 + skip))
       → element_bits 64 at moved ≡ write_at (replicate 64 false) skip (slice_range (element_bits 64 at word) 0 (0 + (64 - skip)))
       → element_bits b at behind ≡ write_at (replicate b false) 0 (slice_range (element_bits 64 at word) (64 - skip) (64 - skip + skip))
       → Writes b at old mid (elements_window b first (64 / b)) (element_bits 64 at (bit_or kept moved))
       → Writes b at mid new (part_window b (record { element = first + 64 / b; from = 0; to = skip })) (slice_range (element_bits b at behind) 0 skip)
       → Writes b at old new window (take window.len (element_bits 64 at word))
-  stored-across at old mid new head kept moved behind word has loaded low-bits high-bits last-bits before after =
+  stored-across at {old} {mid} {new} {first} {skip} {head} kept moved behind word place_is index has loaded low-bits high-bits last-bits before after =
       let bits = element_bits 64 at word in
       let some = width_some b width in
       let whole = word_whole b width (omega arith) in
-      let place = div-add-mod' window.start b in
-      let below = mod_below window.start b some in
+      let place : first * b + skip ≡ window.start = rw (place_is, index) (div-add-mod' window.start b) in
+      let below : skip < b = rw index (mod_below window.start b some) in
       let low = has.within.start in
       let high = has.within.len in
       let wide = length-element_bits 64 at word in

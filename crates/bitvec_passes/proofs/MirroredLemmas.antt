@@ -84,37 +84,48 @@ held-amid {b} xs {n} skip {most} place some below long held len start =
       behind = omega arith;
     }
 
--- the elements that a window touches
-pub record IsTouched (b s n count : ℕ) : Type 0 where
-  pub start : s / b * b ≤ s
-  pub end : s + n ≤ s / b * b + count * b
-  pub least : s / b * b + count * b < s + n + b
-
-pub touched-window : (b s n : ℕ) → 0 < b → 0 < n → IsTouched b s n ((s % b + n - 1) / b + 1)
-touched-window b s n some more =
+-- how many elements a window touches, by the index of its first bit in the first of them
+pub touched-places : (b s n : ℕ) → 0 < b → 0 < n → (s % b + n - 1) / b + 1 ≡ touched_count b s n
+touched-places b s zero some more = absurd (omega arith)
+touched-places b s (suc n) some more =
     let place = div-add-mod' s b in
+    let last : s / b * b + (s % b + suc n - 1) ≡ s + n = omega arith in
+    let sum = ap (λ (m : ℕ). m / b) last in
+    let parts = mul-add-div_right some (s / b) (s % b + suc n - 1) in
+    let all = touched-some b s n in
+    omega arith
+
+-- elements from the one with a window's first bit up to the one with its last bit
+pub record IsTouched (b s n first count : ℕ) : Type 0 where
+  pub start : first * b ≤ s
+  pub end : s + n ≤ first * b + count * b
+  pub least : first * b + count * b < s + n + b
+
+pub touched-window : {b s n first count : ℕ} → 0 < b → 0 < n → first ≡ s / b → count ≡ (s % b + n - 1) / b + 1 → IsTouched b s n first count
+touched-window {b} {s} {n} some more place all =
+    let from = div-add-mod' s b in
     let below = mod_below s b some in
     let parts = div-add-mod' (s % b + n - 1) b in
     let last = mod_below (s % b + n - 1) b some in
-    record { start = omega arith; end = omega arith; least = omega arith }
+    rw (place, all) (record { start = omega arith; end = omega arith; least = omega arith })
 
 -- with room for three elements more, at least one stays free
-pub touched-beside : {b : ℕ} (s : ℕ) {n most : ℕ} → 0 < b → 0 < n → HoldsBeside b n most → (s % b + n - 1) / b + 1 < most
-touched-beside {b} s {n} {most} some more held =
+pub touched-beside : {b : ℕ} (s : ℕ) {n count most : ℕ} → 0 < b → 0 < n → count ≡ (s % b + n - 1) / b + 1 → HoldsBeside b n most → count < most
+touched-beside {b} s {n} {most = most} some more all held =
     let room = held.room in
     let below = mod_below s b some in
     let positive = held-some most held more in
-    let sum : b * most ≡ b * (most - 1) + b = ap (λ (m : ℕ). b * m) (let e : most ≡ most - 1 + 1 = omega arith in e) ∙ omega arith in
+    let sum : b * most ≡ b * (most - 1) + b = ap (λ (n : ℕ). b * n) (let e : most ≡ most - 1 + 1 = omega arith in e) ∙ omega arith in
     let inside : (s % b + n - 1) / b < most - 1 = div_below (s % b + n - 1) b (most - 1) some (omega arith) in
     omega arith
 
-pub touched-has : {b : ℕ} {xs : List ℕ} {window : Window} (count : ℕ) → HasWindow b xs window → 0 < count
-    → window.start / b * b + count * b < window.start + window.len + b → HasWindow b xs (elements_window b (window.start / b) count)
-touched-has {b} {xs} {window} count has some least =
+pub touched-has : {b : ℕ} {xs : List ℕ} {window : Window} {first count : ℕ} → HasWindow b xs window → 0 < count → IsTouched b window.start window.len first count → HasWindow b xs (elements_window b first count)
+touched-has {b} {xs} {window} {first} {count} has some touched =
     let start = has.within.start in
     let len = has.within.len in
-    let last : ℕ = window.start / b + count - 1 in
-    let sum : (window.start / b + count) * b ≡ (last + 1) * b = ap (λ (m : ℕ). m * b) (omega arith) in
+    let least = touched.least in
+    let last : ℕ = first + count - 1 in
+    let sum : (first + count) * b ≡ (last + 1) * b = ap (λ (m : ℕ). m * b) (omega arith) in
     let inside : last < length xs = element_of b last 0 (length xs) (omega arith) in
     let fit = element_fits b last (length xs) inside in
     record { fits = has.fits; within = record { start = omega arith; len = omega arith } }
@@ -127,28 +138,16 @@ last-has {b} first count n has bound =
     let sum : (first + count) * b ≡ (first + (count - n)) * b + n * b = ap (λ (m : ℕ). m * b) (let e : first + count ≡ first + (count - n) + n = omega arith in e) ∙ omega arith in
     record { fits = has.fits; within = record { start = omega arith; len = omega arith } }
 
--- how many elements a window touches, by the index of its first bit in the first of them
-pub touched-places : (b s n : ℕ) → 0 < b → 0 < n → (s % b + n - 1) / b + 1 ≡ touched_count b s n
-touched-places b s zero some more = absurd (omega arith)
-touched-places b s (suc n) some more =
-    let place = div-add-mod' s b in
-    let last : s / b * b + (s % b + suc n - 1) ≡ s + n = omega arith in
-    let sum = ap (λ (m : ℕ). m / b) last in
-    let parts = mul-add-div_right some (s / b) (s % b + suc n - 1) in
-    let all = touched-some b s n in
-    omega arith
-
 -- ---- elements moved toward the start of an array
 
 -- the elements that a window will touch, `by` bits nearer to the start
-pub amid-elements : {b : ℕ} {xs : List ℕ} {place : Window} (s by : ℕ) → IsAmid b xs place → 0 < by → by < b → s + by ≡ place.start
-    → HasSkippedElements b xs xs (s / b) (s / b) by ((s % b + place.len - 1) / b + 1)
-amid-elements {b} {xs} {place} s by amid some below moved =
+pub amid-elements : {b : ℕ} {xs : List ℕ} {place : Window} (s by : ℕ) {first count : ℕ} → first ≡ s / b → count ≡ (s % b + place.len - 1) / b + 1 → IsAmid b xs place → 0 < by → by < b → s + by ≡ place.start
+    → HasSkippedElements b xs xs first first by count
+amid-elements {b} {xs} {place} s by {first} {count} from all amid some below moved =
     let behind = amid.behind in
     let has = amid.window in
-    let touched = touched-window b s place.len (omega arith) amid.some in
+    let touched = touched-window (omega arith) amid.some from all in
     let least = touched.least in
-    let within : Window = record { start = s / b * b + by; len = ((s % b + place.len - 1) / b + 1) * b } in
     record {
       span = record {
         window = record { fits = has.fits; within = record { start = omega arith; len = omega arith } };
@@ -160,14 +159,12 @@ amid-elements {b} {xs} {place} s by amid some below moved =
     }
 
 -- once they are moved, it has the bits that it had
-pub amid-moved : {b : ℕ} (at : ℕ → ℕ → ℕ) {xs : List ℕ} (new : List ℕ) {place : Window} (to : Window) (s by : ℕ) → IsAmid b xs place → 0 < by → by < b → s + by ≡ place.start
-    → to.start ≡ s → to.len ≡ place.len → CopiesElements b at xs new xs (s / b) (s / b) by ((s % b + place.len - 1) / b + 1)
+pub amid-moved : {b : ℕ} (at : ℕ → ℕ → ℕ) {xs : List ℕ} (new : List ℕ) {place : Window} (to : Window) (s by : ℕ) {first count : ℕ} → first ≡ s / b → count ≡ (s % b + place.len - 1) / b + 1 → IsAmid b xs place → 0 < by → by < b → s + by ≡ place.start
+    → to.start ≡ s → to.len ≡ place.len → CopiesElements b at xs new xs first first by count
     → list_in b at new to ≡ list_in b at xs place
-amid-moved {b} at {xs} new {place} to s by amid some below moved start len writes =
-    let first : ℕ = s / b in
-    let count : ℕ = (s % b + place.len - 1) / b + 1 in
-    let skipped = amid-elements s by amid some below moved in
-    let touched = touched-window b s place.len (omega arith) amid.some in
+amid-moved {b} at {xs} new {place} to s by {first} {count} place_is all amid some below moved start len writes =
+    let skipped = amid-elements s by place_is all amid some below moved in
+    let touched = touched-window (omega arith) amid.some place_is all in
     let low : ℕ = s - first * b in
     let from = touched.start in
     let end = touched.end in

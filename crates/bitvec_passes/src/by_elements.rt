@@ -32,8 +32,7 @@ pub fn elements_copy<O: BitOrder, C: Cells, D: CellsRead<Elem = C::Elem>>(
     ensures cost { CostsAtMost C.CellsRead left.old left.new (write_loads C.Elem.BITS false to.len) (write_stores C.Elem.BITS false to.len) }
     ensures right { OnlyReadsAtMost D.CellsRead right.old right.new (read_loads C.Elem.BITS false to.len) }
 {
-    let bits = C::Elem::BITS as usize;
-    if to.len > 0 && to.start % bits == from.start % bits {
+    if to.len > 0 && to.phase::<C::Elem>() == from.phase::<C::Elem>() {
         copy_equal::<O, C, D>(left, to, right, from);
     } else {
         bits_copy::<O, O, C, D>(left, to, right, from);
@@ -56,8 +55,7 @@ pub fn elements_swap<O: BitOrder, C: Cells, D: Cells + CellsRead<Elem = C::Elem>
         (list_in C.Elem.BITS O.at (C.numbers left.old) left_window) }
     ensures right_cost { CostsAtMost D.CellsRead right.old right.new (edit_loads C.Elem.BITS false left_window.len) (write_stores C.Elem.BITS false left_window.len) }
 {
-    let bits = C::Elem::BITS as usize;
-    if left_window.len > 0 && left_window.start % bits == right_window.start % bits {
+    if left_window.len > 0 && left_window.phase::<C::Elem>() == right_window.phase::<C::Elem>() {
         swap_equal::<O, C, D>(left, left_window, right, right_window);
     } else {
         bits_swap::<O, O, C, D>(left, left_window, right, right_window);
@@ -81,9 +79,8 @@ pub fn elements_op<O: BitOrder, C: Cells, D: CellsRead<Elem = C::Elem>>(
     ensures cost { CostsAtMost C.CellsRead left.old left.new (edit_loads C.Elem.BITS false to.len) (write_stores C.Elem.BITS false to.len) }
     ensures right { OnlyReadsAtMost D.CellsRead right.old right.new (read_loads C.Elem.BITS false to.len) }
 {
-    let bits = C::Elem::BITS as usize;
     let met = to.len.min(from.len);
-    if met > 0 && to.start % bits == from.start % bits {
+    if met > 0 && to.phase::<C::Elem>() == from.phase::<C::Elem>() {
         let (first, other) = (to.until(to.len - met), from.until(from.len - met));
         combine_equal::<O, C, D>(left, first, right, other, op);
         combine_zeros::<O, C>(left, to.after(met), op);
@@ -108,9 +105,8 @@ pub fn elements_eq<O: BitOrder, C: CellsRead, D: CellsRead<Elem = C::Elem>>(
     ensures reads { OnlyReadsAtMost C.CellsRead left.old left.new (equal_loads C.Elem.BITS false left_window.len right_window.len) }
     ensures right { OnlyReadsAtMost D.CellsRead right.old right.new (equal_loads C.Elem.BITS false left_window.len right_window.len) }
 {
-    let bits = C::Elem::BITS as usize;
     let len = left_window.len;
-    let has_one_phase = left_window.start % bits == right_window.start % bits;
+    let has_one_phase = left_window.phase::<C::Elem>() == right_window.phase::<C::Elem>();
     if len > 0 && len == right_window.len && has_one_phase {
         equal_unshifted::<O, C, D>(left, left_window, right, right_window)
     } else {

@@ -1,12 +1,12 @@
 //! The bits of a window in the opposite order, by blocks from both ends: the elements of each are loaded into an
 //! array in the opposite order, and copied from it to the other end.
-ghost use Rattle.std.specs.Prelude.{◌≡◌, ◌+◌, ◌-◌, ◌*◌, ◌%◌, ◌<◌, length, map, reverse as reversal, true};
+ghost use Rattle.std.specs.Prelude.{◌≡◌, ◌+◌, ◌-◌, ◌*◌, ◌/◌, ◌%◌, ◌^◌, ◌<◌, length, map, reverse as reversal, true};
 ghost use Rattle.bitvec_base.specs.Memory.{Edits, HasWindow, list_in};
 ghost use Rattle.bitvec_cells.specs.Access.{CostsAtMost, OnlyReads};
 ghost use Rattle.bitvec_cells.specs.Cost.{reverse_loads, reverse_stores, step_span, touched_count, work_steps};
 ghost use Rattle.bitvec_passes.specs.Ends.{HasEnds, HoldsBeside, IsAmid, IsBlock, Mirrors, ends_exchanged};
 
-use bitvec_base::Window;
+use bitvec_base::{Window, elements_of};
 use bitvec_cells::{Cells, CellsRead, Exclusive, Shared};
 use bitvec_combine::copy_equal;
 use bitvec_move::move_elements;
@@ -42,7 +42,7 @@ fn reverse_blocks<O: WordOrder, C: Cells, const HELD: usize>(cells: &mut C, wind
     C::Elem::fits_in_memory();
     let mut first = [C::Elem::ZERO; HELD];
     let mut last = [C::Elem::ZERO; HELD];
-    let room = C::Elem::BITS as usize * (HELD - 3);
+    let room = bits_of::<C::Elem>(HELD - 3);
     let half = window.len / 2;
     let mut low = 0;
     while low < half {
@@ -76,9 +76,9 @@ fn exchange_ends<O: WordOrder, C: Cells>(
     let front = window.range(low, low + count);
     let back = window.range(high - count, high);
     let mirrored = load_mirrored::<O, C>(cells, front, first);
-    let from_first = in_phase::<O, C::Elem>(first, mirrored, back.start);
+    let from_first = in_phase::<O, C::Elem>(first, mirrored, back);
     let mirrored = load_mirrored::<O, C>(cells, back, last);
-    let from_last = in_phase::<O, C::Elem>(last, mirrored, front.start);
+    let from_last = in_phase::<O, C::Elem>(last, mirrored, front);
     copy_equal::<O, C, Shared<C::Elem>>(cells, front, &mut Shared::new(&*last), from_last);
     copy_equal::<O, C, Shared<C::Elem>>(cells, back, &mut Shared::new(&*first), from_first);
 }
@@ -98,38 +98,64 @@ fn load_mirrored<O: WordOrder, C: Cells>(
     ensures mirrors { Mirrors C.Elem.BITS O.at (C.numbers cells.old) window (map C.Elem.value held.new) result }
     ensures reads { OnlyReads C.CellsRead cells.old cells.new (touched_count C.Elem.BITS window.start window.len) }
 {
-    let bits = C::Elem::BITS as usize;
-    let (first, skip) = (window.start / bits, window.start % bits);
+    let first = window.element::<C::Elem>();
+    let count = touched::<C::Elem>(window);
     let most = held.len();
-    let count = (skip + window.len - 1) / bits + 1;
     let (from, last) = (most - 1 - count, first + count - 1);
     for step in 0..count {
         held[from + step] = reversed::<O, C::Elem>(cells.load(last - step));
     }
+    let skip = window.phase::<C::Elem>();
+    let room = bits_of::<C::Elem>(most - 1);
     Window {
-        start: bits * (most - 1) - skip - window.len,
+        start: room - skip - window.len,
         len: window.len,
     }
 }
 
+/// How many elements of type `T` a window touches. Condition: the window isn't empty, and its end is a `usize`.
+#[inline(always)]
+fn touched<T: BitStore>(window: Window) -> usize
+    requires some { 0 < window.len }
+    requires end { window.start + window.len < 2 ^ 64 }
+    ensures { result ≡ (window.start % T.BITS + window.len - 1) / T.BITS + 1 }
+{
+    elements_of::<T>(window.phase::<T>() + window.len - 1) + 1
+}
+
+/// How many bits so many elements of type `T` have. Condition: they are a `usize`.
+#[inline(always)]
+fn bits_of<T: BitStore>(count: usize) -> usize
+    requires { T.BITS * count < 2 ^ 64 }
+    ensures { result ≡ T.BITS * count }
+{
+    T::BITS as usize * count
+}
+
 /// Moves a window of some elements toward their start until it begins at the same index of an element as
-/// the bit `other`, and gives its new place. Condition: an element stands before the window, and one behind it.
+/// another one, and gives its new place. Condition: an element stands before the window, and one behind it.
 ///
 /// It is left out of line, since it works on an array alone: so what is inlined into [`words_reverse`] stays small.
-fn in_phase<O: WordOrder, T: BitStore>(held: &mut [T], window: Window, other: usize) -> Window
+fn in_phase<O: WordOrder, T: BitStore>(held: &mut [T], window: Window, other: Window) -> Window
     requires { IsAmid T.BITS (map T.value held.old) window }
     ensures window { HasWindow T.BITS (map T.value held.new) result }
     ensures len { result.len ≡ window.len }
-    ensures phase { result.start % T.BITS ≡ other % T.BITS }
+    ensures phase { result.start % T.BITS ≡ other.start % T.BITS }
     ensures list { list_in T.BITS O.at (map T.value held.new) result ≡ list_in T.BITS O.at (map T.value held.old) window }
 {
-    let bits = T::BITS as usize;
-    let by = (window.start - other % bits) % bits;
-    let start = window.start - by;
-    let len = window.len;
+    let skip = other.phase::<T>();
+    let before = Window {
+        start: window.start - skip,
+        ..window
+    };
+    let by = before.phase::<T>();
+    let place = Window {
+        start: window.start - by,
+        ..window
+    };
     if by > 0 {
-        let first = start / bits;
-        let count = (start % bits + len - 1) / bits + 1;
+        let first = place.element::<T>();
+        let count = touched::<T>(place);
         let mut cells = Exclusive::new(held);
         let moved = Stretch {
             first,
@@ -139,5 +165,5 @@ fn in_phase<O: WordOrder, T: BitStore>(held: &mut [T], window: Window, other: us
         };
         move_elements::<O, Exclusive<T>, false>(&mut cells, moved);
     }
-    Window { start, len }
+    place
 }

@@ -4,7 +4,7 @@ ghost use Rattle.bitvec_base.specs.Memory.{HasWindow, Writes, element_bits};
 ghost use Rattle.bitvec_cells.specs.Access.{CostsAtMost};
 ghost use Rattle.bitvec_cells.specs.Cost.{fill_loads, touched_count};
 
-use bitvec_base::{Part, Window};
+use bitvec_base::{Part, Window, elements_of};
 use bitvec_cells::{Cells, CellsRead};
 use bitvec_store::BitStore;
 use bitvec_words::{
@@ -21,16 +21,15 @@ pub fn store_few<W: WordOrder, C: Cells>(cells: &mut C, window: Window, word: u6
         (take window.len (element_bits 64 W.at word)) }
     ensures cost { CostsAtMost C.CellsRead cells.old cells.new (fill_loads window.len) (touched_count C.Elem.BITS window.start window.len) }
 {
-    let bits = C::Elem::BITS as usize;
-    if window.len <= bits {
+    if window.len <= C::Elem::BITS as usize {
         let element = moved::<W, u64, C::Elem>(word, 0, window.len, 0);
         store_short::<W, C>(cells, window, element);
     } else if window.len < WORD_BITS {
         store_parts::<W, C>(cells, window, word);
-    } else if window.start % bits > 0 {
+    } else if window.phase::<C::Elem>() > 0 {
         store_across::<W, C>(cells, window, word);
     } else {
-        store_elements::<W, C>(cells, window.start / bits, word);
+        store_elements::<W, C>(cells, window.element::<C::Elem>(), word);
     }
 }
 
@@ -46,13 +45,13 @@ fn store_across<W: WordOrder, C: Cells>(cells: &mut C, window: Window, word: u64
         (take window.len (element_bits 64 W.at word)) }
     ensures cost { CostsAtMost C.CellsRead cells.old cells.new (fill_loads window.len) (touched_count C.Elem.BITS window.start window.len) }
 {
-    let bits = C::Elem::BITS as usize;
-    let (first, skip) = (window.start / bits, window.start % bits);
+    let first = window.element::<C::Elem>();
+    let skip = window.phase::<C::Elem>();
     let kept = moved::<W, C::Elem, u64>(cells.load(first), 0, skip, 0);
     let front = kept | moved::<W, u64, u64>(word, 0, WORD_BITS - skip, skip);
     store_elements::<W, C>(cells, first, front);
     let tail = Part {
-        element: first + WORD_BITS / bits,
+        element: first + elements_of::<C::Elem>(WORD_BITS),
         from: 0,
         to: skip,
     };

@@ -13,4 +13,4 @@ returns-then-len g c =
 pub returns : goal.returns
 returns g c =
     rw (c.merged.ensures, c.ZERO.ensures, g.met.T.BitStore.zero_law, element-none g.T.BitStore.BITS g.O.BitOrder.at)
-    (padded-part _ _ _ _ _ c.requires.inside c.requires.bound (length-element_bits _ _ _))
+    (padded-part _ _ c.requires.inside c.requires.bound (length-element_bits _ _ _))

@@ -57,7 +57,7 @@ returns-clause-cost g c =
     let to = c.args.to in
     let some = width_some b g.met.C.Elem.BitStore.width_law in
     let reach = c.reached-passed.ensures in
-    let all = touched-passed b to.start c.reached-passed.result to.len some reach.bound (rw c.BITS.ensures at reach.edge) in
+    let all = touched-passed b to.start c.reached-passed.result to.len some reach.bound reach.edge in
     let first = rw c.until-first.ensures at c.act.ensures.done.cost in
     costs-both first (rw c.after.ensures at c.combine_zeros-2.ensures.cost) (omega (arith, touched_read b true to.start to.len some)) (omega (arith, touched_stored b true to.start to.len some))
 

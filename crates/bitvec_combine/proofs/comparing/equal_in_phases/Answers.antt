@@ -9,4 +9,4 @@ pub act_phased-requires-room-A-Clone : goal.act_phased-requires-room-A-Clone
 act_phased-requires-room-A-Clone g c κs within = one_field _ _ c.fits_in_memory.ensures.memory
 
 pub returns-clause-value : goal.returns-clause-value
-returns-clause-value g c = found_same _ _ _ _ _ _ _ _ _ _ _ c.requires.span c.act_phased.ensures.done (rw c.ZERO.ensures g.met.C.Elem.BitStore.zero_law) c.is_zero.ensures
+returns-clause-value g c = found_same c.requires.span c.act_phased.ensures.done (rw c.ZERO.ensures g.met.C.Elem.BitStore.zero_law) c.is_zero.ensures

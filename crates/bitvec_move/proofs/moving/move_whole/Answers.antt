@@ -27,9 +27,9 @@ loop-step-preserved g c =
     let inv = c.loop-step.invariant in
     let next : (c.loop-step.step + 1) * 128 ≡ c.loop-step.step * 128 + 128 = omega arith in
     record {
-      writes = rw next (CopiesSome-turn (not (nat_eq g.row.LATER 0)) _ _ _ _ _ c.args.moved.first c.args.moved.source c.args.moved.count (c.loop-step.step * 128) 128 c.requires.span c.requires.towards (turn-more _ _ c.loop-step-test.true) inv.writes
+      writes = rw next (CopiesSome-turn (not (nat_eq g.row.LATER 0)) c.args.moved.first c.args.moved.source c.args.moved.count (c.loop-step.step * 128) 128 c.requires.span c.requires.towards (turn-more _ _ c.loop-step-test.true) inv.writes
           (rw c.turn_place-here.ensures.place at c.move_each.ensures.writes));
-      cost = Costs-sum g.C.CellsRead _ _ _ _ _ _ _ _ _ inv.cost c.move_each.ensures.cost next next;
+      cost = Costs-sum g.C.CellsRead inv.cost c.move_each.ensures.cost next next;
     }
 
 pub move_each-requires-2-clause-span : goal.move_each-requires-2-clause-span
@@ -49,5 +49,5 @@ returns-clause-writes g c =
     let k : ℕ = n / 128 * 128 in
     let all : c.loop-step.step ≡ n / 128 = omega arith in
     CopiesSome-whole later _ _ _ _ c.args.moved.first c.args.moved.source n (k + (n - k)) (omega arith)
-    (CopiesSome-turn later _ _ _ _ _ c.args.moved.first c.args.moved.source n k (n - k) c.requires.span c.requires.towards (omega arith) (rw all at c.loop-step.invariant.writes)
+    (CopiesSome-turn later c.args.moved.first c.args.moved.source n k (n - k) c.requires.span c.requires.towards (omega arith) (rw all at c.loop-step.invariant.writes)
     (rw c.turn_place-behind.ensures.place at c.move_each-2.ensures.writes))

@@ -35,12 +35,12 @@ loop-passed-preserved g c =
     let inv = c.loop-passed.invariant in let skipped = c.requires.skipped in let more = c.loop-passed-test.true in
     let some = width_some _ g.met.C.Elem.BitStore.width_law in
     let passed = c.loop-passed.passed in
-    let kept = CopiesSome-kept later _ _ _ _ _ _ _ (waiting_place later (passed + 1) c.args.count) c.requires.towards skipped.span.window more (nth-waiting later passed c.args.count) (omega arith) inv.writes in
+    let kept = CopiesSome-kept later _ _ _ _ _ (waiting_place later (passed + 1) c.args.count) c.requires.towards skipped.span.window more (nth-waiting later passed c.args.count) (omega arith) inv.writes in
     let read : element_bits g.C.Elem.BitStore.BITS g.O.BitOrder.at (g.K.Carried.value c.of-next.result) ≡ bits (c.args.source + waiting_place later (passed + 1) c.args.count) =
     rw (c.of-next.ensures, c.load.ensures.value, c.read_place-read.ensures) kept in
     record {
       writes = rw (c.store.ensures.numbers, c.load.ensures.numbers, c.next_place-place.ensures)
-          (CopiesSome-more later _ _ _ _ _ _ _ _ some skipped.span more
+          (CopiesSome-more later _ _ _ _ passed _ some skipped.span more
           (c.joined.ensures ∙ list-joined_next later _ _ _ _ _ g.K.Carried.value _ _ skipped.inside skipped.bound skipped.span.beside more inv.carried read c.in_order-low.ensures)
           inv.writes);
       carried = read;

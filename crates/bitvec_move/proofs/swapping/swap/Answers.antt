@@ -12,19 +12,19 @@ returns-then-left_window-eq0-clause-swaps g c =
     }
 
 pub swap_equal-requires-clause-phases : goal.swap_equal-requires-clause-phases
-swap_equal-requires-clause-phases g c = rw c.width-bits.ensures.is at c.if-left_window-bits.true
+swap_equal-requires-clause-phases g c = rw (c.phase.ensures, c.phase-2.ensures) at c.if-phase.true
 
 pub swap_shifted-requires-clause-phases : goal.swap_shifted-requires-clause-phases
-swap_shifted-requires-clause-phases g c = rw c.width-bits.ensures.is at c.if-left_window-bits.false
+swap_shifted-requires-clause-phases g c = rw (c.phase.ensures, c.phase-2.ensures) at c.if-phase.false
 
-pub returns-then-left_window-bits-clause-cost : goal.returns-then-left_window-bits-clause-cost
-returns-then-left_window-bits-clause-cost g c = Costs-touched g.C.CellsRead _ _ _ _ _ _ g.met.C.Elem.BitStore.width_law refl c.swap_equal.ensures.cost
+pub returns-then-phase-clause-cost : goal.returns-then-phase-clause-cost
+returns-then-phase-clause-cost g c = Costs-touched g.C.CellsRead _ g.met.C.Elem.BitStore.width_law refl c.swap_equal.ensures.cost
 
-pub returns-then-left_window-bits-clause-right_cost : goal.returns-then-left_window-bits-clause-right_cost
-returns-then-left_window-bits-clause-right_cost g c = Costs-touched g.D.CellsRead _ _ _ _ _ _ g.met.C.Elem.BitStore.width_law c.requires.lengths c.swap_equal.ensures.right_cost
+pub returns-then-phase-clause-right_cost : goal.returns-then-phase-clause-right_cost
+returns-then-phase-clause-right_cost g c = Costs-touched g.D.CellsRead _ g.met.C.Elem.BitStore.width_law c.requires.lengths c.swap_equal.ensures.right_cost
 
-pub returns-else-left_window-bits-clause-cost : goal.returns-else-left_window-bits-clause-cost
-returns-else-left_window-bits-clause-cost g c = Costs-touched g.C.CellsRead _ _ _ _ _ _ g.met.C.Elem.BitStore.width_law refl c.swap_shifted.ensures.cost
+pub returns-else-phase-clause-cost : goal.returns-else-phase-clause-cost
+returns-else-phase-clause-cost g c = Costs-touched g.C.CellsRead _ g.met.C.Elem.BitStore.width_law refl c.swap_shifted.ensures.cost
 
-pub returns-else-left_window-bits-clause-right_cost : goal.returns-else-left_window-bits-clause-right_cost
-returns-else-left_window-bits-clause-right_cost g c = Costs-touched g.D.CellsRead _ _ _ _ _ _ g.met.C.Elem.BitStore.width_law c.requires.lengths c.swap_shifted.ensures.right_cost
+pub returns-else-phase-clause-right_cost : goal.returns-else-phase-clause-right_cost
+returns-else-phase-clause-right_cost g c = Costs-touched g.D.CellsRead _ g.met.C.Elem.BitStore.width_law c.requires.lengths c.swap_shifted.ensures.right_cost

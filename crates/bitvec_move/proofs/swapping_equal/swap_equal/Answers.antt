@@ -12,7 +12,7 @@ swap_part-requires-clause-part g c = head-part _ _ _ c.args.left_window _ g.met.
 
 pub swap_part-requires-clause-source : goal.swap_part-requires-clause-source
 swap_part-requires-clause-source g c =
-    head-element g.met.C.Elem.BitStore.width_law c.width-bits.ensures.is (omega arith) c.requires.span.beside
+    rw c.element.ensures (head-element g.met.C.Elem.BitStore.width_law refl (omega arith) c.requires.span.beside)
 
 pub swap_aligned-requires-2-clause-edge : goal.swap_aligned-requires-2-clause-edge
 swap_aligned-requires-2-clause-edge g c =
@@ -46,7 +46,7 @@ pub returns-clause-swaps : goal.returns-clause-swaps
 returns-clause-swaps g c =
     let b = g.C.Elem.BitStore.BITS in
     let some = width_some _ g.met.C.Elem.BitStore.width_law in
-    let first = rw (c.head_of-passed.ensures.part, c.width-bits.ensures.is) at c.swap_part.ensures.swaps in
+    let first = rw (c.head_of-passed.ensures.part, c.element.ensures) at c.swap_part.ensures.swaps in
     let rest = rw (c.after-rest.ensures, c.after-behind.ensures) at c.swap_aligned-2.ensures.swaps in
     SwapsWindows-joined c.requires.span.window c.requires.span.beside
     (beside-head b c.args.left_window c.args.left_window c.head_of-passed.result.1 some c.requires.some c.head_of-passed.ensures.long refl refl)

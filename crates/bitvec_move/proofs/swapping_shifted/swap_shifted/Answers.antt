@@ -13,7 +13,7 @@ use Rattle.bitvec_move.proofs.swapping_shifted.swap_shifted.Goals as goal
 
 pub load-waiting-requires : goal.load-waiting-requires
 load-waiting-requires g c =
-    head-element g.met.C.Elem.BitStore.width_law c.width-bits.ensures.is (omega arith) c.requires.span.beside
+    rw c.element.ensures (head-element g.met.C.Elem.BitStore.width_law refl (omega arith) c.requires.span.beside)
 
 pub swap_waiting-last-requires : goal.swap_waiting-last-requires
 swap_waiting-last-requires g c =
@@ -48,7 +48,7 @@ returns-then-passed-left_window-clause-right_cost g c =
     let long : c.args.right_window.len - (c.args.right_window.len - c.head_of-passed.result.1) ≡ c.args.right_window.len = omega arith in
     let more = touched-first b c.args.right_window.start c.args.right_window.len (omega arith) in
     let head = rw (c.until-met.ensures, long) at c.swap_waiting-last.ensures.right_cost in
-    Costs-around g.D.CellsRead _ _ _ _ _ _ c.load-waiting.ensures.borrow c.load-waiting.ensures.loads c.load-waiting.ensures.stores head c.store.ensures.borrow c.store.ensures.loads c.store.ensures.stores more
+    Costs-around g.D.CellsRead c.load-waiting.ensures.borrow c.load-waiting.ensures.loads c.load-waiting.ensures.stores head c.store.ensures.borrow c.store.ensures.loads c.store.ensures.stores more
 
 pub returns-clause-swaps : goal.returns-clause-swaps
 returns-clause-swaps g c =
@@ -58,7 +58,7 @@ returns-clause-swaps g c =
     let inside = apart_edge b c.args.left_window.start c.args.right_window.start c.head_of-passed.result.1 c.args.left_window.len some c.head_of-passed.ensures.long c.if-passed-left_window.false c.requires.phases in
     let same = inside_element b c.args.right_window.start c.head_of-passed.result.1 some inside in
     let met : c.args.right_window.len - (c.args.right_window.len - c.head_of-passed.result.1) ≡ c.head_of-passed.result.1 = omega arith in
-    let first = rw (c.head_of-passed.ensures.part, c.until-met.ensures, c.load-waiting.ensures.numbers, c.load-waiting.ensures.value, c.width-bits.ensures.is, set-get_or, met, same) at c.swap_waiting-last.ensures.swaps in
+    let first = rw (c.head_of-passed.ensures.part, c.until-met.ensures, c.load-waiting.ensures.numbers, c.load-waiting.ensures.value, c.element.ensures, set-get_or, met, same) at c.swap_waiting-last.ensures.swaps in
     let rest = rw (c.after-rest.ensures, c.after-behind.ensures) at c.swap_rest.ensures.swaps in
     SwapsWindows-joined c.requires.span.window c.requires.span.beside
     (beside-head b c.args.left_window c.args.left_window c.head_of-passed.result.1 some c.requires.some c.head_of-passed.ensures.long refl refl)
@@ -71,7 +71,7 @@ returns-clause-cost g c =
     let some = width_some _ g.met.C.Elem.BitStore.width_law in
     let all = touched-rest b c.args.left_window.start c.head_of-passed.result.1 c.args.left_window.len some c.requires.some c.head_of-passed.ensures.long c.if-passed-left_window.false in
     let rest = rw c.after-rest.ensures at c.swap_rest.ensures.cost in
-    Costs-sum g.C.CellsRead _ _ _ _ _ _ _ _ _ c.swap_waiting-last.ensures.cost rest all all
+    Costs-sum g.C.CellsRead c.swap_waiting-last.ensures.cost rest all all
 
 pub returns-clause-right_cost : goal.returns-clause-right_cost
 returns-clause-right_cost g c =
@@ -86,7 +86,7 @@ returns-clause-right_cost g c =
     let behind = touched-first b (c.args.right_window.start + c.head_of-passed.result.1) (c.args.right_window.len - c.head_of-passed.result.1) (omega arith) in
     let first = rw (c.until-met.ensures, met) at c.swap_waiting-last.ensures.right_cost in
     let rest = rw c.after-behind.ensures at c.swap_rest.ensures.right_cost in
-    Costs-waiting g.D.CellsRead _ _ _ _ _ _ _ c.load-waiting.ensures.borrow c.load-waiting.ensures.loads c.load-waiting.ensures.stores first rest all front behind
+    Costs-waiting g.D.CellsRead c.load-waiting.ensures.borrow c.load-waiting.ensures.loads c.load-waiting.ensures.stores first rest all front behind
 
 pub returns-then-passed-left_window-clause-swaps : goal.returns-then-passed-left_window-clause-swaps
 returns-then-passed-left_window-clause-swaps g c =
@@ -95,10 +95,10 @@ returns-then-passed-left_window-clause-swaps g c =
     let below = mod_below c.args.left_window.start b some in
     let place = part-first b c.args.left_window (omega arith) in
     let long : c.args.right_window.len - (c.args.right_window.len - c.head_of-passed.result.1) ≡ c.args.right_window.len = omega arith in
-    let first = rw (c.head_of-passed.ensures.part, place, c.until-met.ensures, c.load-waiting.ensures.numbers, c.load-waiting.ensures.value, c.width-bits.ensures.is, set-get_or, long) at c.swap_waiting-last.ensures.swaps in
-    rw (c.store.ensures.numbers, c.until-met.ensures, c.width-bits.ensures.is, long) first
+    let first = rw (c.head_of-passed.ensures.part, place, c.until-met.ensures, c.load-waiting.ensures.numbers, c.load-waiting.ensures.value, c.element.ensures, set-get_or, long) at c.swap_waiting-last.ensures.swaps in
+    rw (c.store.ensures.numbers, c.last_element.ensures, c.until-met.ensures, long) first
 
 pub store-requires : goal.store-requires
 store-requires g c =
     let loaded = ap length c.load-waiting.ensures.numbers in
-    place-element _ _ g.met.C.Elem.BitStore.width_law c.width-bits.ensures.is c.requires.span.beside (rw c.until-met.ensures (omega arith)) (omega (arith, length-set {A = ℕ}))
+    rw c.last_element.ensures (place-element _ _ g.met.C.Elem.BitStore.width_law c.requires.span.beside (rw c.until-met.ensures (omega arith)) (omega (arith, length-set {A = ℕ})))

@@ -6,11 +6,11 @@ use Rattle.bitvec_words.proofs.CostLemmas.{costs-within, reads-most}
 use Rattle.bitvec_combine.proofs.CostLemmas.{costs-most, reads-within}
 use Rattle.bitvec_passes.proofs.by_elements.elements_copy.Goals as goal
 
-pub returns-then-to-bits-clause-cost : goal.returns-then-to-bits-clause-cost
-returns-then-to-bits-clause-cost g c = costs-most c.copy_equal.ensures.cost (omega (arith, write_enough g.C.Elem.BitStore.BITS c.args.to.len)) (touched_stored _ false _ _ (width_some _ g.met.C.Elem.BitStore.width_law))
+pub returns-then-phase-clause-cost : goal.returns-then-phase-clause-cost
+returns-then-phase-clause-cost g c = costs-most c.copy_equal.ensures.cost (omega (arith, write_enough g.C.Elem.BitStore.BITS c.args.to.len)) (touched_stored _ false _ _ (width_some _ g.met.C.Elem.BitStore.width_law))
 
-pub returns-then-to-bits-clause-right : goal.returns-then-to-bits-clause-right
-returns-then-to-bits-clause-right g c =
+pub returns-then-phase-clause-right : goal.returns-then-phase-clause-right
+returns-then-phase-clause-right g c =
     let most = touched_read g.C.Elem.BitStore.BITS false c.args.from.start c.args.from.len (width_some _ g.met.C.Elem.BitStore.width_law) in
     reads-most c.copy_equal.ensures.right (omega (arith, ap (read_loads g.C.Elem.BitStore.BITS false) c.requires.lengths))
 

@@ -13,8 +13,8 @@ use Rattle.bitvec_words.proofs.CostLemmas.{costs-within, reads-most}
 use Rattle.bitvec_combine.proofs.CostLemmas.{reads-within}
 use Rattle.bitvec_passes.proofs.by_elements.elements_op.Goals as goal
 
-pub returns-then-to-bits-clause-writes : goal.returns-then-to-bits-clause-writes
-returns-then-to-bits-clause-writes g c =
+pub returns-then-phase-clause-writes : goal.returns-then-phase-clause-writes
+returns-then-phase-clause-writes g c =
     let b = g.C.Elem.BitStore.BITS in
     let at = g.O.BitOrder.at in
     let f = operator c.args.op in
@@ -41,8 +41,8 @@ returns-then-to-bits-clause-writes g c =
     ∙ combined-first f a d all (length x) (omega arith) (λ (k : ℕ) (late : length a ≤ k) (inside : k < length a + length d). let past : length all ≤ k = omega arith in past))
     first rest
 
-pub returns-then-to-bits-clause-cost : goal.returns-then-to-bits-clause-cost
-returns-then-to-bits-clause-cost g c =
+pub returns-then-phase-clause-cost : goal.returns-then-phase-clause-cost
+returns-then-phase-clause-cost g c =
     let b = g.C.Elem.BitStore.BITS in
     let some = width_some b g.met.C.Elem.BitStore.width_law in
     let least : c.min-met.result ≡ min c.args.to.len c.args.from.len = omega arith in
@@ -56,8 +56,8 @@ returns-then-to-bits-clause-cost g c =
     let stores = store_enough b c.args.to.len in
     record { borrow = rest.borrow ∙ first.borrow; loads = omega arith; stores = omega arith }
 
-pub returns-then-to-bits-clause-right : goal.returns-then-to-bits-clause-right
-returns-then-to-bits-clause-right g c =
+pub returns-then-phase-clause-right : goal.returns-then-phase-clause-right
+returns-then-phase-clause-right g c =
     let b = g.C.Elem.BitStore.BITS in
     let some = width_some b g.met.C.Elem.BitStore.width_law in
     let long : c.args.from.len - (c.args.from.len - c.min-met.result) ≡ c.min-met.result = omega arith in

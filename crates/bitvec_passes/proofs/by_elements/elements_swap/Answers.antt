@@ -5,13 +5,13 @@ use Rattle.bitvec_cells.specs.CostLaws.{read_enough, store_enough, touched_read,
 use Rattle.bitvec_words.proofs.CostLemmas.{costs-within}
 use Rattle.bitvec_passes.proofs.by_elements.elements_swap.Goals as goal
 
-pub returns-then-left_window-bits-clause-cost : goal.returns-then-left_window-bits-clause-cost
-returns-then-left_window-bits-clause-cost g c =
+pub returns-then-phase-clause-cost : goal.returns-then-phase-clause-cost
+returns-then-phase-clause-cost g c =
     let some = width_some g.C.Elem.BitStore.BITS g.met.C.Elem.BitStore.width_law in
     costs-within c.swap_equal.ensures.cost (omega (arith, touched_read _ false c.args.left_window.start c.args.left_window.len some)) (touched_stored _ false _ _ some)
 
-pub returns-then-left_window-bits-clause-right_cost : goal.returns-then-left_window-bits-clause-right_cost
-returns-then-left_window-bits-clause-right_cost g c =
+pub returns-then-phase-clause-right_cost : goal.returns-then-phase-clause-right_cost
+returns-then-phase-clause-right_cost g c =
     let b = g.C.Elem.BitStore.BITS in
     let some = width_some b g.met.C.Elem.BitStore.width_law in
     let place = c.args.right_window in

@@ -24,7 +24,6 @@ loop-low-preserved g c =
     let at = g.O.BitOrder.at in
     let low = c.loop-low.low in let count = c.min-count.result in
     let words = c.loop-low.invariant.words c.loop-low-test.true in
-    let is = rw c.BITS.ensures at c.min-count.ensures in
     let before = c.loop-low.invariant.cost in let cost = c.exchange_ends.ensures.cost in
     let loads = block-next low count (step_span b true + 2) words in
     let stores = block-next low count (step_span b true) words in

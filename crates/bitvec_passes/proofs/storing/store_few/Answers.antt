@@ -1,4 +1,4 @@
-use Rattle.std.proofs.Common.{◌≡◌, ◌%◌, ◌/◌, arith, sym}
+use Rattle.std.proofs.Common.{◌≡◌, ◌/◌, arith, sym}
 use Rattle.std.proofs.lemmas.Nat.{div-add-mod'}
 use Rattle.bitvec_base.specs.MemoryLaws.{length-element_bits}
 use Rattle.bitvec_base.specs.WritesLaws.{Writes-is}
@@ -10,31 +10,29 @@ use Rattle.bitvec_store.specs.WidthLaws.{width_some}
 use Rattle.bitvec_passes.proofs.FewLemmas.{few-stored, few-touched}
 use Rattle.bitvec_passes.proofs.storing.store_few.Goals as goal
 
-pub returns-then-window-bits-clause-writes : goal.returns-then-window-bits-clause-writes
-returns-then-window-bits-clause-writes g c =
-    let short = rw c.BITS-bits.ensures at c.if-window-bits.true in
+pub returns-then-window-BITS-clause-writes : goal.returns-then-window-BITS-clause-writes
+returns-then-window-BITS-clause-writes g c =
+    let short = rw c.BITS.ensures at c.if-window-BITS.true in
     Writes-is c.store_short.ensures.writes (few-stored _ g.W.BitOrder.at c.args.window.len (g.C.Elem.BitStore.value c.moved-element.result) c.args.word short c.requires.bound c.moved-element.ensures)
 
-pub returns-then-window-bits-clause-cost : goal.returns-then-window-bits-clause-cost
-returns-then-window-bits-clause-cost g c =
+pub returns-then-window-BITS-clause-cost : goal.returns-then-window-BITS-clause-cost
+returns-then-window-BITS-clause-cost g c =
     let window = c.args.window in
-    let few = few-touched g.C.Elem.BitStore.BITS window.start window.len (width_some _ g.met.C.Elem.BitStore.width_law) (rw c.BITS-bits.ensures at c.if-window-bits.true) in
+    let few = few-touched g.C.Elem.BitStore.BITS window.start window.len (width_some _ g.met.C.Elem.BitStore.width_law) (omega arith) in
     let cost = c.store_short.ensures.cost in
     record { borrow = cost.borrow; loads = omega arith; stores = cost.stores }
 
-pub returns-else-window-bits-gt0-clause-cost : goal.returns-else-window-bits-gt0-clause-cost
-returns-else-window-bits-gt0-clause-cost g c =
+pub returns-else-phase-gt0-clause-cost : goal.returns-else-phase-gt0-clause-cost
+returns-else-phase-gt0-clause-cost g c =
     let size : c.args.window.len ≡ 64 = omega arith in
-    let edge : c.args.window.start % c.BITS-bits.result ≡ 0 = omega arith in
     let cost = c.store_elements.ensures.cost in
-    rw (size, touched-word g.C.Elem.BitStore.BITS c.args.window.start g.met.C.Elem.BitStore.width_law (omega arith) (rw c.BITS-bits.ensures at edge)) (record { borrow = cost.borrow; loads = omega arith; stores = omega arith })
+    rw (size, touched-word g.C.Elem.BitStore.BITS c.args.window.start g.met.C.Elem.BitStore.width_law (omega arith) (omega arith)) (record { borrow = cost.borrow; loads = omega arith; stores = omega arith })
 
-pub returns-else-window-bits-gt0-clause-writes : goal.returns-else-window-bits-gt0-clause-writes
-returns-else-window-bits-gt0-clause-writes g c =
+pub returns-else-phase-gt0-clause-writes : goal.returns-else-phase-gt0-clause-writes
+returns-else-phase-gt0-clause-writes g c =
     let b = g.C.Elem.BitStore.BITS in
     let window = c.args.window in
     let whole = word_whole b g.met.C.Elem.BitStore.width_law (omega arith) in let place = div-add-mod' window.start b in
-    let edge : window.start % b ≡ 0 = rw (sym c.BITS-bits.ensures) (omega arith) in
     let wide = length-element_bits 64 g.W.BitOrder.at c.args.word in
-    let is = Writes-is (rw c.BITS-bits.ensures at c.store_elements.ensures.writes) (sym (take-all _ window.len (omega arith))) in
+    let is = Writes-is (rw c.element.ensures at c.store_elements.ensures.writes) (sym (take-all _ window.len (omega arith))) in
     Writes-same (elements_window b (window.start / b) (64 / b)) window (omega arith) (omega arith) is

@@ -19,7 +19,7 @@ returns-clause-value g c =
     let bound = c.requires.bound in
     let part : Part = record { element = window.start / b; from = c.args._index; to = c.args._index + window.len } in
     let inside = head-element {w = b} g.met.D.Elem.BitStore.width_law refl c.requires.some c.requires.inside in
-    rw (c.load.ensures.value, c.BITS.ensures) (sym (list-same b g.O.BitOrder.at _ (part_window b part) window (omega arith) (omega arith) ∙ list-part {b = b} g.O.BitOrder.at {part = part} (record { element = inside; order = omega arith; bound = bound })))
+    rw (c.load.ensures.value, c.element.ensures) (sym (list-same b g.O.BitOrder.at _ (part_window b part) window (omega arith) (omega arith) ∙ list-part {b = b} g.O.BitOrder.at {part = part} (record { element = inside; order = omega arith; bound = bound })))
 
 pub returns-clause-reads : goal.returns-clause-reads
 returns-clause-reads g c =

@@ -13,7 +13,8 @@ returns g c =
     let width = g.met.T.BitStore.width_law in
     let has = c.requires.part in
     let place = mod-mul-add c.args.part.element b c.args.part.from (omega arith) in
-    let all = length-element_bits b g.O.BitOrder.at (g.T.BitStore.value c.args.other) in
+    let at = g.O.BitOrder.at in
+    let all = length-element_bits b at (g.T.BitStore.value c.args.other) in
     let number = rw (c.xor.ensures, c.load-element.ensures.value, c.mask.ensures) at c.and-differing.ensures in
-    finds-one _ _ _ _ _ _ _ _ _ _ width (omega arith) (omega arith) (length-slice_range _ _ _ (omega arith)) (search rules) c.or-self.ensures
-    (rw (number, list-part _ has) (same-between b _ (g.met.O.BitOrder.permutes _ width) _ _ _ _ has.order has.bound))
+    finds-one _ width (omega arith) (omega arith) (length-slice_range _ _ _ (omega arith)) (search rules) c.or-self.ensures
+    (rw (number, list-part at has) (same-between b at (g.met.O.BitOrder.permutes b width) _ _ _ _ has.order has.bound))

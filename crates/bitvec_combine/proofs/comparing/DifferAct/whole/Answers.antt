@@ -13,5 +13,5 @@ returns g c =
     let at = g.O.BitOrder.at in
     let width = g.met.T.BitStore.width_law in
     let first = mul-mod_left c.args.index b in
-    finds-one _ _ _ _ _ _ _ _ _ _ width (width_some b width) (omega arith) (length-element_bits b at _) (search rules) c.or-self.ensures
+    finds-one _ width (width_some b width) (omega arith) (length-element_bits b at _) (search rules) c.or-self.ensures
     (rw (c.xor.ensures, list-whole b at _ _ c.requires, ← c.load-element.ensures.value) (same-whole b at (g.met.O.BitOrder.permutes _ width) _ _ c.load-element.ensures.in_range c.in_range.ensures))
