@@ -26,8 +26,8 @@ use Rattle.bitvec_segments.specs.Segments.{bit_number, segment_bits, segment_num
 use Rattle.bitvec_segments.proofs.PartLemmas.{number-range}
 
 -- the memory has the elements that a window touches
-pub HasWindow-elements : (b : ℕ) (xs : List ℕ) (window : Window) (count : ℕ) → HasWindow b xs window → 0 < count → (count - 1) * b < window.start % b + window.len → HasWindow b xs (elements_window b (window.start / b) count)
-HasWindow-elements b xs window count has some last =
+pub HasWindow-elements : {b : ℕ} {xs : List ℕ} {window : Window} (count : ℕ) → HasWindow b xs window → 0 < count → (count - 1) * b < window.start % b + window.len → HasWindow b xs (elements_window b (window.start / b) count)
+HasWindow-elements {b} {xs} {window} count has some last =
     let first : ℕ = window.start / b in
     let place = div-add-mod' window.start b in
     let split : (first + (count - 1)) * b ≡ first * b + (count - 1) * b = omega arith in
@@ -52,8 +52,8 @@ pub number-element : (high : Bool) (b : ℕ) (at : ℕ → ℕ → ℕ) {v x : �
 number-element high b at {v} ends is below = segment-number-is high b v _ below (bits-number high b at v ends ∙ ap (element_bits b at) is)
 
 -- of one element
-pub number-one : (high : Bool) (b : ℕ) (at : ℕ → ℕ → ℕ) (xs : List ℕ) (first v : ℕ) → 0 < b → HasWindow b xs (elements_window b first 1) → v ≡ segment_number high (element_bits b at (slice_index xs first)) → v ≡ segment_number high (list_in b at xs (elements_window b first 1))
-number-one high b at xs first v some has is =
+pub number-one : (high : Bool) {b : ℕ} (at : ℕ → ℕ → ℕ) {xs : List ℕ} (first : ℕ) {v : ℕ} → 0 < b → HasWindow b xs (elements_window b first 1) → v ≡ segment_number high (element_bits b at (slice_index xs first)) → v ≡ segment_number high (list_in b at xs (elements_window b first 1))
+number-one high {b} at {xs} first some has is =
     let none = list-empty b at xs (elements_window b first 0) (omega arith) in
     let here : first + 0 ≡ first = omega arith in
     let whole = rw (none, here) at (list-element at first 1 0 some has (omega arith)) in
@@ -74,8 +74,8 @@ number-next false {b} at {xs} first count some has before next =
     rw (before, next) (sym (sym (ap (segment_number false) whole) ∙ append-lowest (list_in b at xs (elements_window b first count)) (element_bits b at (slice_index xs (first + count))) ∙ rw long refl))
 
 -- it has as many bits as they
-pub number-below : (high : Bool) (b : ℕ) (at : ℕ → ℕ → ℕ) (xs : List ℕ) (window : Window) (v : ℕ) → HasWindow b xs window → v ≡ segment_number high (list_in b at xs window) → v < 2 ^ window.len
-number-below high b at xs window v has is =
+pub number-below : (high : Bool) {b : ℕ} (at : ℕ → ℕ → ℕ) {xs : List ℕ} {window : Window} {v : ℕ} → HasWindow b xs window → v ≡ segment_number high (list_in b at xs window) → v < 2 ^ window.len
+number-below high {b} at {xs} {window} has is =
     let below = rw (length-list at has) at (segment_number-below high (list_in b at xs window)) in
     rw is below
 
@@ -95,9 +95,9 @@ number-cut high {b} at {xs} window count has inside is =
     ∙ ap (segment_number high) (sym part ∙ rw (place, len) refl)
 
 -- of 64 bits of whole elements, by a word that has them
-pub number-word : (high : Bool) (b : ℕ) (at : ℕ → ℕ → ℕ) (xs : List ℕ) (window : Window) (v : ℕ) → RunsFrom high 64 at → IsWidth b → b ≤ 64 → window.start % b ≡ 0 → window.len ≡ 64 → v < 2 ^ 64
+pub number-word : (high : Bool) {b : ℕ} (at : ℕ → ℕ → ℕ) (xs : List ℕ) (window : Window) {v : ℕ} → RunsFrom high 64 at → IsWidth b → b ≤ 64 → window.start % b ≡ 0 → window.len ≡ 64 → v < 2 ^ 64
     → element_bits 64 at v ≡ list_in b at xs (elements_window b (window.start / b) (64 / b)) → v ≡ segment_number high (list_in b at xs window)
-number-word high b at xs window v ends width narrow edge size below is =
+number-word high {b} at xs window {v} ends width narrow edge size below is =
     let place = div-add-mod' window.start b in
     let start : window.start / b * b ≡ window.start = omega arith in
     let long : 64 / b * b ≡ window.len = word_whole b width narrow ∙ sym size in
@@ -123,6 +123,16 @@ touched-last b s n some more =
     let back : last / b + 1 - 1 ≡ last / b = omega arith in
     let before : (last / b + 1 - 1) * b < last + 1 = rw back (omega arith) in
     touched-elements b s n (last / b + 1) (omega arith) (omega arith) (omega arith) (omega arith)
+
+-- so few reach no further
+pub touched-most : {b : ℕ} (s : ℕ) {n : ℕ} (count : ℕ) → 0 < b → 0 < n → touched_count b s n ≤ count → s % b + n ≤ count * b
+touched-most {b} s {n} count some more most =
+    let last : ℕ = s % b + n - 1 in
+    let touched = touched-last b s n some more in
+    let place = div-add-mod' last b in
+    let below = mod_below last b some in
+    let room = mul-le-mul_left b (let e : last / b + 1 ≤ count = omega arith in e) in
+    omega arith
 
 -- ---- two numbers in one word
 

@@ -41,9 +41,9 @@ part-remainder high b at ends v from to order bound =
     let moved : ℕ = v / 2 ^ lowest_bit high b from k in
     segment-number-is high k (moved % 2 ^ k) _ (mod_below moved (2 ^ k) (pow_pos k)) (segment_bits-mod high k moved ∙ part-bits high b at ends v from to order bound)
 
-pub part-number : (high : Bool) (b : ℕ) (at : ℕ → ℕ → ℕ) → RunsFrom high b at → (v from to : ℕ) → from < to → to ≤ b
+pub part-number : (high : Bool) {b : ℕ} (at : ℕ → ℕ → ℕ) → RunsFrom high b at → (v : ℕ) {from to : ℕ} → from < to → to ≤ b
     → bit_and (v / 2 ^ lowest_bit high b from (to - from)) ((2 ^ b - 1) / 2 ^ (b - (to - from))) ≡ segment_number high (slice_range (element_bits b at v) from to)
-part-number high b at ends v from to some bound =
+part-number high {b} at ends v {from} {to} some bound =
     let k : ℕ = to - from in
     let moved : ℕ = v / 2 ^ lowest_bit high b from k in
     let back : b - (b - k) ≡ k = omega arith in
@@ -68,9 +68,9 @@ moved_bit b v low p fits =
     ∙ ap (λ (n : ℕ). bit_at n p) (div-add-mod' v (2 ^ b))
 
 -- the part of an element that such a number has there
-pub number-part : (high : Bool) (b : ℕ) (at : ℕ → ℕ → ℕ) → RunsFrom high b at → (v from to : ℕ) → from < to → to ≤ b
+pub number-part : (high : Bool) {b : ℕ} (at : ℕ → ℕ → ℕ) → RunsFrom high b at → (v : ℕ) {from to : ℕ} → from < to → to ≤ b
     → slice_range (element_bits b at (bit_and v (2 ^ b - 1) * 2 ^ lowest_bit high b from (to - from) % 2 ^ b)) from to ≡ segment_bits high (to - from) v
-number-part high b at ends v from to some bound =
+number-part high {b} at ends v {from} {to} some bound =
     let k : ℕ = to - from in
     let low = lowest_bit high b from k in
     let moved : ℕ = bit_and v (2 ^ b - 1) * 2 ^ low % 2 ^ b in

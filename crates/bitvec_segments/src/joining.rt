@@ -23,20 +23,30 @@ pub(crate) fn joined_number<O: WordOrder, C: CellsRead>(cells: &mut C, window: W
     ensures value { result ≡ segment_number O.HIGH (list_in C.Elem.BITS O.at (C.numbers cells.old) window) }
     ensures reads { OnlyReads C.CellsRead cells.old cells.new (touched_count C.Elem.BITS window.start window.len) }
 {
-    let bits = C::Elem::BITS as usize;
-    let from = window.start % bits;
-    let first = window.start / bits;
+    let (first, from) = (window.element::<C::Elem>(), window.phase::<C::Elem>());
     let mut word = cells.load(first).to_u128() as u64;
     let mut count = 1;
-    let mut width = bits;
+    let mut width = C::Elem::BITS as usize;
     while width < from + window.len {
-        let next = cells.load(first + count).to_u128() as u64;
-        word = with_next::<O>(word, width, next, bits);
+        let next = cells.load(first + count);
+        word = with_element::<O, C::Elem>(word, width, next);
         count += 1;
-        width += bits;
+        width += C::Elem::BITS as usize;
     }
     let below = bits_below::<O>(width, from, from + window.len);
     (word >> below) & (u64::MAX >> (WORD_BITS - window.len))
+}
+
+/// The number of `width` bits and of those of one more element behind them. Condition: there are some, they are at most
+/// 64 together, and the numbers have no more bits.
+#[inline(always)]
+fn with_element<O: WordOrder, T: BitStore>(word: u64, width: usize, next: T) -> u64
+    requires some { 0 < width }
+    requires bound { width + T.BITS ≤ 64 }
+    requires word { word < 2 ^ width }
+    ensures { result ≡ (if O.HIGH then word * 2 ^ T.BITS + T.value next else T.value next * 2 ^ width + word) }
+{
+    with_next::<O>(word, width, next.to_u128() as u64, T::BITS as usize)
 }
 
 /// The number of `width` bits and of `bits` more behind them. Condition: they are at most 64, `bits` is below 64 and some,

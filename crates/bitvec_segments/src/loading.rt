@@ -4,7 +4,7 @@ ghost use Rattle.bitvec_cells.specs.Access.{OnlyReads};
 ghost use Rattle.bitvec_segments.specs.Windows.{HasNumber, loaded_in};
 ghost use Rattle.bitvec_cells.specs.Cost.{touched_count};
 
-use crate::cutting::{lower_bits, part_at};
+use crate::cutting::{lower_bits, part_at, touched};
 use crate::joining::joined_number;
 use crate::part::{number_between, part_number};
 use bitvec_base::Window;
@@ -26,18 +26,17 @@ pub fn load<const BIG: bool, O: WordOrder, C: CellsRead>(cells: &mut C, window: 
     if window.len == 0 {
         return 0;
     }
-    let bits = C::Elem::BITS as usize;
-    let from = window.start % bits;
+    let from = window.phase::<C::Elem>();
     if BIG == O::HIGH {
-        if bits <= WORD_BITS {
+        if C::Elem::BITS as usize <= WORD_BITS {
             if from == 0 && window.len == WORD_BITS {
-                return load_elements::<O, C>(cells, window.start / bits) as u128;
+                return load_elements::<O, C>(cells, window.element::<C::Elem>()) as u128;
             }
             if from + window.len <= WORD_BITS {
                 return joined_number::<O, C>(cells, window) as u128;
             }
         }
-        if window.len <= bits {
+        if window.len <= C::Elem::BITS as usize {
             let (front, _) = load_element::<O, C>(cells, window);
             return number_between::<O, C::Elem>(front, 0, window.len);
         }
@@ -52,15 +51,11 @@ fn load_segments<const BIG: bool, O: WordOrder, C: CellsRead>(cells: &mut C, win
     ensures value { result ≡ loaded_in BIG O.HIGH C.Elem.BITS O.at (C.numbers cells.old) window }
     ensures reads { OnlyReads C.CellsRead cells.old cells.new (touched_count C.Elem.BITS window.start window.len) }
 {
-    let bits = C::Elem::BITS as usize;
-    let end = window.start % bits + window.len;
-    if end <= bits {
-        return load_in::<BIG, O, C>(cells, window, 1);
+    match touched::<C::Elem>(window) {
+        1 => load_in::<BIG, O, C>(cells, window, 1),
+        2 => load_in::<BIG, O, C>(cells, window, 2),
+        count => load_in::<BIG, O, C>(cells, window, count),
     }
-    if end <= 2 * bits {
-        return load_in::<BIG, O, C>(cells, window, 2);
-    }
-    load_in::<BIG, O, C>(cells, window, (end - 1) / bits + 1)
 }
 
 /// `load` of a window that touches `count` elements, a part of one at a time.
@@ -75,13 +70,12 @@ fn load_in<const BIG: bool, O: WordOrder, C: CellsRead>(
     ensures value { result ≡ loaded_in BIG O.HIGH C.Elem.BITS O.at (C.numbers cells.old) window }
     ensures reads { OnlyReads C.CellsRead cells.old cells.new (touched_count C.Elem.BITS window.start window.len) }
 {
-    let bits = C::Elem::BITS as usize;
-    let (mut element, mut from) = (window.start / bits, window.start % bits);
+    let (mut element, mut from) = (window.element::<C::Elem>(), window.phase::<C::Elem>());
     let mut number = 0;
     let mut rest = window;
     let mut left = count;
     while left > 0 {
-        let part = part_at(bits, rest, element, from, bits.min(from + rest.len));
+        let part = part_at::<C::Elem>(rest, element, from);
         let len = part.len();
         let below = lower_bits::<BIG>(window.len - rest.len, rest.len - len);
         number += part_number::<O, C>(cells, part) << below;

@@ -1,10 +1,10 @@
 //! A number put into the bits of a window.
-ghost use Rattle.std.specs.Prelude.{◌≡◌, ◌+◌, ◌*◌, ◌%◌, ◌<◌, ◌≤◌};
+ghost use Rattle.std.specs.Prelude.{◌≡◌, ◌*◌, ◌<◌, ◌≤◌};
 ghost use Rattle.bitvec_cells.specs.Access.{CostsAtMost};
 ghost use Rattle.bitvec_segments.specs.Windows.{HasNumber, StoresIn};
 ghost use Rattle.bitvec_cells.specs.Cost.{fill_loads, touched_count};
 
-use crate::cutting::{lower_bits, part_at};
+use crate::cutting::{full_part_at, is_whole, lower_bits, only_part_at, part_at, touched};
 use crate::part::store_part_number;
 use bitvec_base::Window;
 use bitvec_cells::Cells;
@@ -22,16 +22,15 @@ pub fn store<const BIG: bool, O: WordOrder, C: Cells>(cells: &mut C, window: Win
     if window.len == 0 {
         return;
     }
-    let bits = C::Elem::BITS as usize;
-    let from = window.start % bits;
-    if window.len <= bits - from {
-        let part = part_at(bits, window, window.start / bits, from, from + window.len);
+    if touched::<C::Elem>(window) == 1 {
+        let (element, from) = (window.element::<C::Elem>(), window.phase::<C::Elem>());
+        let part = only_part_at::<C::Elem>(window, element, from);
         store_part_number::<O, C>(cells, part, number);
-    } else if from == 0 && window.len == 2 * bits {
+    } else if is_whole::<C::Elem>(window, 2) {
         store_in::<BIG, O, C>(cells, window, 2, number);
-    } else if from == 0 && window.len == 4 * bits {
+    } else if is_whole::<C::Elem>(window, 4) {
         store_in::<BIG, O, C>(cells, window, 4, number);
-    } else if from == 0 && window.len == 8 * bits {
+    } else if is_whole::<C::Elem>(window, 8) {
         store_in::<BIG, O, C>(cells, window, 8, number);
     } else {
         store_segments::<BIG, O, C>(cells, window, number);
@@ -46,25 +45,25 @@ fn store_segments<const BIG: bool, O: WordOrder, C: Cells>(
 )
     requires number { HasNumber C.Elem.BITS (C.numbers cells.old) window }
     requires some { 0 < window.len }
-    requires passes { C.Elem.BITS < window.start % C.Elem.BITS + window.len }
+    requires passes { 1 < touched_count C.Elem.BITS window.start window.len }
     ensures writes { StoresIn BIG O.HIGH C.Elem.BITS O.at (C.numbers cells.old) (C.numbers cells.new) window number }
     ensures cost { CostsAtMost C.CellsRead cells.old cells.new (fill_loads window.len) (touched_count C.Elem.BITS window.start window.len) }
 {
-    let bits = C::Elem::BITS as usize;
-    let (element, from) = (window.start / bits, window.start % bits);
-    let head = bits - from;
-    let rest = window.after(head);
-    if rest.len > 2 * bits {
-        store_in::<BIG, O, C>(cells, window, (from + window.len - 1) / bits + 1, number);
+    let count = touched::<C::Elem>(window);
+    if count > 3 {
+        store_in::<BIG, O, C>(cells, window, count, number);
         return;
     }
-    let part = part_at(bits, window, element, from, bits);
+    let element = window.element::<C::Elem>();
+    let part = full_part_at::<C::Elem>(window, element, window.phase::<C::Elem>());
+    let len = part.len();
+    let rest = window.after(len);
     store_part_number::<O, C>(cells, part, number >> lower_bits::<BIG>(0, rest.len));
     store_two::<BIG, O, C>(
         cells,
         rest,
         element + 1,
-        number >> lower_bits::<BIG>(head, 0),
+        number >> lower_bits::<BIG>(len, 0),
     );
 }
 
@@ -83,17 +82,17 @@ fn store_two<const BIG: bool, O: WordOrder, C: Cells>(
     ensures writes { StoresIn BIG O.HIGH C.Elem.BITS O.at (C.numbers cells.old) (C.numbers cells.new) window number }
     ensures cost { CostsAtMost C.CellsRead cells.old cells.new 1 (touched_count C.Elem.BITS window.start window.len) }
 {
-    let bits = C::Elem::BITS as usize;
-    if window.len <= bits {
-        let part = part_at(bits, window, element, 0, window.len);
+    if window.len <= C::Elem::BITS as usize {
+        let part = only_part_at::<C::Elem>(window, element, 0);
         store_part_number::<O, C>(cells, part, number);
         return;
     }
-    let rest = window.after(bits);
-    let part = part_at(bits, window, element, 0, bits);
-    let last = part_at(bits, rest, element + 1, 0, rest.len);
+    let part = full_part_at::<C::Elem>(window, element, 0);
+    let len = part.len();
+    let rest = window.after(len);
+    let last = only_part_at::<C::Elem>(rest, element + 1, 0);
     store_part_number::<O, C>(cells, part, number >> lower_bits::<BIG>(0, rest.len));
-    store_part_number::<O, C>(cells, last, number >> lower_bits::<BIG>(bits, 0));
+    store_part_number::<O, C>(cells, last, number >> lower_bits::<BIG>(len, 0));
 }
 
 /// `store` of a window that touches `count` elements, a part of one at a time. Where the compiler knows
@@ -110,12 +109,11 @@ fn store_in<const BIG: bool, O: WordOrder, C: Cells>(
     ensures writes { StoresIn BIG O.HIGH C.Elem.BITS O.at (C.numbers cells.old) (C.numbers cells.new) window number }
     ensures cost { CostsAtMost C.CellsRead cells.old cells.new (fill_loads window.len) (touched_count C.Elem.BITS window.start window.len) }
 {
-    let bits = C::Elem::BITS as usize;
-    let (mut element, mut from) = (window.start / bits, window.start % bits);
+    let (mut element, mut from) = (window.element::<C::Elem>(), window.phase::<C::Elem>());
     let mut rest = window;
     let mut left = count;
     while left > 0 {
-        let part = part_at(bits, rest, element, from, bits.min(from + rest.len));
+        let part = part_at::<C::Elem>(rest, element, from);
         let len = part.len();
         let below = lower_bits::<BIG>(window.len - rest.len, rest.len - len);
         store_part_number::<O, C>(cells, part, number >> below);

@@ -2,69 +2,57 @@ use Rattle.std.specs.Prelude.{bit_and}
 use Rattle.std.proofs.Common.{◌≡◌, ◌+◌, ◌-◌, ◌/◌, ◌%◌, ◌^◌, ℕ, arith, ap, ◌∙◌}
 use Rattle.std.proofs.lemmas.Nat.{and_mask}
 use Rattle.std.proofs.lemmas.Nat.Bits.{ones_shr}
-use Rattle.std.proofs.Math.Nat.{mul-pos}
 use Rattle.bitvec_store.specs.WidthLaws.{width_some}
 use Rattle.bitvec_segments.proofs.JoinedWindow.{HasWindow-elements, number-below, number-cut, number-element, number-next, number-one, touched-elements}
 use Rattle.bitvec_segments.proofs.joining.joined_number.Goals as goal
 
 pub loop-width-init : goal.loop-width-init
 loop-width-init g c =
-    let some = width_some _ g.met.C.Elem.BitStore.width_law in
     let word = c.to_u128-word.ensures in
     let value = number-element g.O.WordOrder.HIGH _ g.O.BitOrder.at (g.met.O.WordOrder.ends_law _) (word.number ∙ c.load.ensures.value) word.in_range in
     record {
       some = omega arith;
       width = omega arith;
       last = omega arith;
-      value = number-one _ _ _ _ _ _ some (HasWindow-elements _ _ c.args.window 1 c.requires.window (omega arith) (omega arith)) (rw c.BITS-bits.ensures at value);
+      value = number-one _ _ _ (width_some _ g.met.C.Elem.BitStore.width_law) (HasWindow-elements 1 c.requires.window (omega arith) (omega arith)) (rw c.element-first.ensures at value);
       reads = record { numbers = c.load.ensures.numbers; borrow = c.load.ensures.borrow; loads = c.load.ensures.loads; stores = c.load.ensures.stores };
     }
 
-pub with_next-word-requires : goal.with_next-word-requires
-with_next-word-requires g c =
+pub with_element-word-requires-clause-word : goal.with_element-word-requires-clause-word
+with_element-word-requires-clause-word g c =
     let inv = c.loop-width.invariant in
-    let some = width_some _ g.met.C.Elem.BitStore.width_law in
-    rw (c.BITS-bits.ensures, inv.width) (record {
-      some = some;
-      narrow = grind (arith, g.met.C.Elem.BitStore.width_law, mul-pos inv.some some);
-      bound = grind (arith, g.met.C.Elem.BitStore.width_law);
-      word = number-below _ _ _ _ _ _ (HasWindow-elements _ _ c.args.window c.loop-width.count c.requires.window inv.some inv.last) inv.value;
-      next = c.to_u128-next.ensures.in_range;
-    })
+    rw inv.width (number-below _ _ (HasWindow-elements c.loop-width.count c.requires.window inv.some inv.last) inv.value)
 
 pub loop-width-preserved : goal.loop-width-preserved
 loop-width-preserved g c =
-    let some = width_some _ g.met.C.Elem.BitStore.width_law in
     let inv = c.loop-width.invariant in
-    let left = rw (c.BITS-bits.ensures, inv.width) at c.loop-width-test.true in
+    let left = rw (c.phase-from.ensures, inv.width) at c.loop-width-test.true in
     let back : c.loop-width.count + 1 - 1 ≡ c.loop-width.count = omega arith in
     let last = rw (← back) at left in
-    let has = HasWindow-elements _ _ c.args.window (c.loop-width.count + 1) c.requires.window (omega arith) last in
-    let next = c.to_u128-next.ensures in
-    let element = number-element g.O.WordOrder.HIGH _ g.O.BitOrder.at (g.met.O.WordOrder.ends_law _) (next.number ∙ c.load-in-loop-width.ensures.value) next.in_range in
-    let value = rw (c.BITS-bits.ensures, inv.reads.numbers) at element in
-    let joined = rw (c.BITS-bits.ensures, inv.width) at c.with_next-word.ensures in
-    let whole = number-next _ _ _ _ some has inv.value value in
+    let has = HasWindow-elements (c.loop-width.count + 1) c.requires.window (omega arith) last in
+    let more = c.load-next.ensures in
+    let element = number-element g.O.WordOrder.HIGH _ g.O.BitOrder.at (g.met.O.WordOrder.ends_law _) more.value more.in_range in
+    let value = rw (c.element-first.ensures, inv.reads.numbers) at element in
+    let joined = rw inv.width at c.with_element-word.ensures in
     let reads = inv.reads in
-    let more = c.load-in-loop-width.ensures in
     record {
       some = omega arith;
       width = omega arith;
       last = last;
-      value = joined ∙ whole;
+      value = joined ∙ number-next _ _ _ _ (width_some _ g.met.C.Elem.BitStore.width_law) has inv.value value;
       reads = record { numbers = more.numbers ∙ reads.numbers; borrow = more.borrow ∙ reads.borrow; loads = omega arith; stores = more.stores ∙ reads.stores };
     }
 
 pub returns-clause-value : goal.returns-clause-value
 returns-clause-value g c =
     let inv = c.loop-width.invariant in
-    let all = rw (c.BITS-bits.ensures, inv.width) at c.loop-width-test.false in
-    let has = HasWindow-elements _ _ c.args.window c.loop-width.count c.requires.window inv.some inv.last in
+    let all = rw (c.phase-from.ensures, inv.width) at c.loop-width-test.false in
+    let has = HasWindow-elements c.loop-width.count c.requires.window inv.some inv.last in
     let len : ℕ = c.args.window.len in
     let back : 64 - (64 - len) ≡ len = omega arith in
     let mask : (2 ^ 64 - 1) / 2 ^ (64 - len) ≡ 2 ^ len - 1 = ones_shr 64 (64 - len) (omega arith) ∙ ap (λ (n : ℕ). 2 ^ n - 1) back in
     let size : c.args.window.start % g.C.Elem.BitStore.BITS + len - c.args.window.start % g.C.Elem.BitStore.BITS ≡ len = omega arith in
-    let below = rw (c.BITS-bits.ensures, inv.width, size) at c.bits_below-below.ensures in
+    let below = rw (c.phase-from.ensures, inv.width, size) at c.bits_below-below.ensures in
     ap (bit_and (c.loop-width.word / 2 ^ c.bits_below-below.result)) mask
     ∙ and_mask (c.loop-width.word / 2 ^ c.bits_below-below.result) len
     ∙ ap (λ (n : ℕ). c.loop-width.word / 2 ^ n % 2 ^ len) below
@@ -73,6 +61,6 @@ returns-clause-value g c =
 pub returns-clause-reads : goal.returns-clause-reads
 returns-clause-reads g c =
     let inv = c.loop-width.invariant in
-    let all = rw (c.BITS-bits.ensures, inv.width) at c.loop-width-test.false in
+    let all = rw (c.phase-from.ensures, inv.width) at c.loop-width-test.false in
     let count = touched-elements g.C.Elem.BitStore.BITS c.args.window.start c.args.window.len c.loop-width.count c.requires.word.some inv.some inv.last all in
     rw count inv.reads
