@@ -27,20 +27,25 @@ module _ {F : Type 0} (R : F → ℕ → Bool → F → Type 0) where
     pub bits : memory_bits b at now ≡ write_window (memory_bits b at old) window new
     pub elements : length now ≡ length old
 
-  pub answered-none : (f : F) (b : ℕ) (at : ℕ → ℕ → ℕ) (old now : List ℕ) (window : Window) → HasWindow b old window → now ≡ old → Answered f f b at old now window 0
-  answered-none f b at old now window has same =
+  -- what is left of the calls that are allowed
+  abbrev pub MayGoOn : (F → ℕ → Type 0) → ℕ → ℕ → F → Type 0
+  MayGoOn may n i f = CallableAtEachTurn (index_steps n) (λ p k q. (bit : Bool) × R p k bit q) may i f
+
+module _ {F : Type 0} {R : F → ℕ → Bool → F → Type 0} where
+  pub answered-none : {f : F} {b : ℕ} {at : ℕ → ℕ → ℕ} {old now : List ℕ} {window : Window} → HasWindow b old window → now ≡ old → Answered R f f b at old now window 0
+  answered-none {f} {b} {at} {old} {now} {window} has same =
       let within = within-list at has in
       record { new = []; calls = refl; long = refl; bits = ap (memory_bits b at) same ∙ sym (write_at-nil (memory_bits b at old) window.start within.start); elements = ap length same }
 
-  module _ (f last : F) (b : ℕ) (at : ℕ → ℕ → ℕ) (old now : List ℕ) (window : Window) (i : ℕ) (has : HasWindow b old window) (done : Answered f last b at old now window i) where
+  module _ {f last : F} {b : ℕ} {at : ℕ → ℕ → ℕ} {old now : List ℕ} {window : Window} {i : ℕ} (has : HasWindow b old window) (done : Answered R f last b at old now window i) where
     pub answered-window : HasWindow b now window
     answered-window = HasWindow-kept now has done.elements
 
     module _ (h : i < window.len) where
-      pub answered-next : (bit : Bool) (next : F) (after : List ℕ) → R last i bit next → Writes b at now after window (slice_set (list_in b at now window) i bit) → Answered f next b at old after window (i + 1)
-      answered-next bit next after call wrote = record {
+      pub answered-next : {bit : Bool} {next : F} {after : List ℕ} → R last i bit next → Writes b at now after window (slice_set (list_in b at now window) i bit) → Answered R f next b at old after window (i + 1)
+      answered-next {bit} {next} {after} call wrote = record {
         new = done.new ++ (bit ∷ []);
-        calls = fills-more f 0 done.new last i bit next (omega (arith, done.long)) done.calls call;
+        calls = fills-more R f 0 done.new last i bit next (omega (arith, done.long)) done.calls call;
         long = omega (arith, done.long, length-append done.new (bit ∷ []));
         bits = wrote.bits
             ∙ ap (λ (m : List Bool). write_window m window (slice_set (window_of m window) i bit)) done.bits
@@ -49,19 +54,15 @@ module _ {F : Type 0} (R : F → ℕ → Bool → F → Type 0) where
       }
 
       -- the next bit is as it was
-      pub answered-shown : (bit : Bool) → bit ≡ slice_index_or (list_in b at now window) i false → bit ≡ slice_index_or (list_in b at old window) i false
-      answered-shown bit read =
+      pub answered-shown : {bit : Bool} → bit ≡ slice_index_or (list_in b at now window) i false → bit ≡ slice_index_or (list_in b at old window) i false
+      answered-shown {bit} read =
           read
           ∙ ap (λ (m : List Bool). slice_index_or (window_of m window) i false) done.bits
           ∙ window-rest (memory_bits b at old) window done.new i false (within-list at has) (omega (arith, done.long)) h
 
-  -- what is left of the calls that are allowed
-  abbrev pub MayGoOn : (F → ℕ → Type 0) → ℕ → ℕ → F → Type 0
-  MayGoOn may n i f = CallableAtEachTurn (index_steps n) (λ p k q. (bit : Bool) × R p k bit q) may i f
-
-  module _ (may : F → ℕ → Type 0) (n i : ℕ) (f : F) (allowed : MayGoOn may n i f) (h : i < n) where
+  module _ {may : F → ℕ → Type 0} {n i : ℕ} {f : F} (allowed : MayGoOn R may n i f) (h : i < n) where
     pub may-now : may f i
     may-now = allowed.at [] i f i (i + 1) refl refl (h, refl, refl)
 
-    pub may-next : (bit : Bool) (next : F) → R f i bit next → MayGoOn may n (i + 1) next
-    may-next bit next call = record { at = λ xs t q x u gave calls more. allowed.at (i ∷ xs) t q x u (i + 1, (h, refl, refl), gave) (next, (bit, call), calls) more }
+    pub may-next : {bit : Bool} {next : F} → R f i bit next → MayGoOn R may n (i + 1) next
+    may-next {bit} {next} call = record { at = λ xs t q x u gave calls more. allowed.at (i ∷ xs) t q x u (i + 1, (h, refl, refl), gave) (next, (bit, call), calls) more }

@@ -37,7 +37,7 @@ module _ (base word : ℕ) (fits : word < 2 ^ 64) where
         room = refl;
       }
 
-module _ (base word : ℕ) (old now : List ℕ) (left rest : ℕ) (before : WrittenBack base word old now left rest) where
+module _ {base word : ℕ} {old now : List ℕ} {left rest : ℕ} (before : WrittenBack base word old now left rest) where
   module _ (some : rest ≢ 0) (fits : rest < 2 ^ 64) where
     next : drop (length (places base word) - left) (places base word) ≡ (base + (63 - trailing_zeros w64 rest)) ∷ places base (bit_and rest (rest - 1))
     next = before.later ∙ ap (map (λ place. base + (63 - place))) (ones-lowest rest some fits)

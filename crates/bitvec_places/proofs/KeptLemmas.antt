@@ -31,7 +31,7 @@ get-padded : (b : ℕ) (list : List Bool) (i : ℕ) → i < b → slice_index_or
 unfolding padded
 get-padded b list i below = grind (arith, places)
 
-module _ (b : ℕ) (at : ℕ → ℕ → ℕ) (xs : List ℕ) (window : Window) (rest : Rest) (word seen count : ℕ) (has : HasWindow b xs window) (some : rest.front < rest.back) (bound : rest.back ≤ window.len)
+module _ {b : ℕ} {at : ℕ → ℕ → ℕ} {xs : List ℕ} {window : Window} (rest : Rest) {word : ℕ} (seen : ℕ) {count : ℕ} (has : HasWindow b xs window) (some : rest.front < rest.back) (bound : rest.back ≤ window.len)
     (front : IsFront b at xs (window_range window rest.front rest.back) word count) (first : element_bits 64 (λ b i. i) seen ≡ element_bits 64 at word) where
   abbrev part : Window
   part = window_range (window_range window rest.front rest.back) 0 count
@@ -197,17 +197,17 @@ module _ (want : Bool) (list : List Bool) (rest : Rest) (kept : Kept) (keeps : K
       word_places (length (word_ones kept.ones)) cut (omega arith) fits (omega arith)
 
 -- the places of a rest's first bits, which were loaded as a word, of which the ones of `m` are the wanted
-module _ (b : ℕ) (at : ℕ → ℕ → ℕ) (xs : List ℕ) (window : Window) (rest : Rest) (word count : ℕ) (has : HasWindow b xs window) (some : rest.front < rest.back) (bound : rest.back ≤ window.len)
+module _ {b : ℕ} {at : ℕ → ℕ → ℕ} {xs : List ℕ} {window : Window} (rest : Rest) {word count : ℕ} (has : HasWindow b xs window) (some : rest.front < rest.back) (bound : rest.back ≤ window.len)
     (front : IsFront b at xs (window_range window rest.front rest.back) word count) where
   front-places : (want : Bool) (m : ℕ) → Shows 64 (λ b i. i) (turned_word at word) (turned_word at m) 0 count want → places_in want (list_in b at xs window) rest.front (rest.front + count) ≡ map (λ place. rest.front + place) (order_ones at m)
   front-places want m shows =
       let within = front.within in
-      let keeps = kept-loaded b at xs window rest word (turned_word at word) count has some bound front (turned-is at word) want (turned_word at m) shows in
+      let keeps = kept-loaded rest (turned_word at word) has some bound front (turned-is at word) want (turned_word at m) shows in
       kept-places want (list_in b at xs window) rest (record { ones = turned_word at m; base = rest.front; edge = rest.front + count }) keeps (turned-fits at m) (omega arith)
       ∙ ap (map (λ place. rest.front + place)) (turned-ones at m (turned_word at m) (turned-is at m))
 
   pub front-ones : places_in true (list_in b at xs window) rest.front (rest.front + count) ≡ map (λ place. rest.front + place) (order_ones at word)
-  front-ones = front-places true word (shows-ones b at xs window rest word (turned_word at word) count has some bound front (turned-is at word))
+  front-ones = front-places true word (shows-ones rest (turned_word at word) has some bound front (turned-is at word))
 
   pub front-zeros : (m : ℕ) → Shows 64 at word m 0 count false → places_in false (list_in b at xs window) rest.front (rest.front + count) ≡ map (λ place. rest.front + place) (order_ones at m)
   front-zeros m shows = front-places false m (shows-turned shows)

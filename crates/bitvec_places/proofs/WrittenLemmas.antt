@@ -35,7 +35,7 @@ written-by all old now n few within is =
       behind = ap (drop n) is ∙ ap (λ (m : ℕ). drop m (take n all ++ drop n old)) (sym begun) ∙ drop-append_seam (take n all) (drop n old);
     }
 
-module _ (all old now : List ℕ) (n : ℕ) (before : Written all old now n) where
+module _ {all old now : List ℕ} {n : ℕ} (before : Written all old now n) where
   -- all that is known of the list in the end
   pub written-is : now ≡ take n all ++ drop n old
   written-is = sym (take-append-drop n now) ∙ ap (λ (l : List ℕ). l ++ drop n now) before.front ∙ ap (λ (l : List ℕ). take n all ++ l) before.behind
@@ -100,7 +100,7 @@ module _ (all old now : List ℕ) (n : ℕ) (before : Written all old now n) whe
         let rest = length-drop n now in
         omega arith
 
-  module _ (every later : List ℕ) (is : every ≡ all ++ later) where
+  module _ {every : List ℕ} (later : List ℕ) (is : every ≡ all ++ later) where
     -- and of a longer list, of which no more have room
     pub written-count : n ≡ min (length all) (length old) → (later ≡ []) ⊎ (length old ≤ n) → n ≡ min (length every) (length old)
     written-count most ended =
@@ -117,11 +117,11 @@ pub record WrittenOnes (base word : ℕ) (old now : List ℕ) (n rest : ℕ) : T
   pub left : drop n (map (λ place. base + place) (word_ones word)) ≡ map (λ place. base + place) (word_ones rest)
   pub written : Written (map (λ place. base + place) (word_ones word)) old now n
 
-module _ (base word : ℕ) (old : List ℕ) where
+module _ {base word : ℕ} {old : List ℕ} where
   pub ones-begun : WrittenOnes base word old old 0 word
   ones-begun = record { left = refl; written = written-none _ old }
 
-  module _ (now : List ℕ) (n rest : ℕ) (before : WrittenOnes base word old now n rest) where
+  module _ {now : List ℕ} {n rest : ℕ} (before : WrittenOnes base word old now n rest) where
     abbrev all : List ℕ
     all = map (λ place. base + place) (word_ones word)
 
@@ -139,7 +139,7 @@ module _ (base word : ℕ) (old : List ℕ) where
       pub ones-next : n < length old → WrittenOnes base word old (set now n (base + trailing_zeros w64 rest)) (n + 1) (bit_and rest (rest - 1))
       ones-next below = record {
         left = sym (drop-drop 1 n all) ∙ ap (drop 1) next;
-        written = written-next all old now n before.written _ _ next below;
+        written = written-next before.written _ _ next below;
       }
 
     -- in the end all are written, or as many as there is room for

@@ -4,16 +4,16 @@ use Rattle.bitvec_domain.proofs.answering.fill_with_in.Goals as goal
 
 pub loop-index-init : goal.loop-index-init
 loop-index-init g c = record {
-  answered = answered-none _ _ _ _ _ _ _ c.requires.window c.new-accessor.ensures.numbers;
+  answered = answered-none c.requires.window c.new-accessor.ensures.numbers;
   allowed = c.requires.callable;
   borrow = search rules;
 }
 
 pub f-bit-requires : goal.f-bit-requires
-f-bit-requires g c = may-now _ _ _ _ _ c.loop-index.invariant.allowed c.loop-index-test.true
+f-bit-requires g c = may-now c.loop-index.invariant.allowed c.loop-index-test.true
 
 pub replace_bit-requires-clause-window : goal.replace_bit-requires-clause-window
-replace_bit-requires-clause-window g c = answered-window _ _ _ _ _ _ _ _ _ c.requires.window c.loop-index.invariant.answered
+replace_bit-requires-clause-window g c = answered-window c.requires.window c.loop-index.invariant.answered
 
 pub loop-index-preserved : goal.loop-index-preserved
 loop-index-preserved g c =
@@ -21,8 +21,8 @@ loop-index-preserved g c =
     let more = c.loop-index-test.true in
     let call = c.f-bit.ensures in
     record {
-      answered = answered-next _ _ _ _ _ _ _ _ _ c.requires.window inv.answered more _ _ _ call c.replace_bit.ensures.writes;
-      allowed = may-next _ _ _ _ _ inv.allowed more _ _ call;
+      answered = answered-next c.requires.window inv.answered more call c.replace_bit.ensures.writes;
+      allowed = may-next inv.allowed more call;
       borrow = search rules;
     }
 

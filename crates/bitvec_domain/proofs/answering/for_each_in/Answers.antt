@@ -7,35 +7,35 @@ use Rattle.bitvec_domain.proofs.answering.for_each_in.Goals as goal
 
 pub loop-index-init : goal.loop-index-init
 loop-index-init g c = record {
-  answered = answered-none _ _ _ _ _ _ _ c.requires.window c.new-accessor.ensures.numbers;
+  answered = answered-none c.requires.window c.new-accessor.ensures.numbers;
   allowed = c.requires.callable;
   borrow = search rules;
 }
 
 pub get_bit-bit-requires-clause-window : goal.get_bit-bit-requires-clause-window
-get_bit-bit-requires-clause-window g c = answered-window _ _ _ _ _ _ _ _ _ c.requires.window c.loop-index.invariant.answered
+get_bit-bit-requires-clause-window g c = answered-window c.requires.window c.loop-index.invariant.answered
 
 pub f-answer-requires : goal.f-answer-requires
 f-answer-requires g c =
     let inv = c.loop-index.invariant in
     let more = c.loop-index-test.true in
-    let bit = answered-shown _ _ _ _ _ _ _ _ _ c.requires.window inv.answered more _ c.get_bit-bit.ensures.value in
+    let bit = answered-shown c.requires.window inv.answered more c.get_bit-bit.ensures.value in
     let long = length-list g.O.BitOrder.at c.requires.window in
-    subst (λ (b : Bool). Takes g.F.FnMut c.loop-index.f (c.loop-index.index, (b, tt))) (sym bit) (may-now _ _ _ _ _ inv.allowed (omega arith))
+    subst (λ (b : Bool). Takes g.F.FnMut c.loop-index.f (c.loop-index.index, (b, tt))) (sym bit) (may-now inv.allowed (omega arith))
 
 pub replace_bit-requires-clause-window : goal.replace_bit-requires-clause-window
-replace_bit-requires-clause-window g c = rw c.get_bit-bit.ensures.reads.numbers (answered-window _ _ _ _ _ _ _ _ _ c.requires.window c.loop-index.invariant.answered)
+replace_bit-requires-clause-window g c = rw c.get_bit-bit.ensures.reads.numbers (answered-window c.requires.window c.loop-index.invariant.answered)
 
 pub loop-index-preserved : goal.loop-index-preserved
 loop-index-preserved g c =
     let inv = c.loop-index.invariant in
     let more = c.loop-index-test.true in
-    let bit = answered-shown _ _ _ _ _ _ _ _ _ c.requires.window inv.answered more _ c.get_bit-bit.ensures.value in
+    let bit = answered-shown c.requires.window inv.answered more c.get_bit-bit.ensures.value in
     let long = length-list g.O.BitOrder.at c.requires.window in
     let call = subst (λ (b : Bool). Called g.F.FnMut c.loop-index.f (c.loop-index.index, (b, tt)) c.f-answer.result c.f-answer.new.self) bit c.f-answer.ensures in
     record {
-      answered = answered-next _ _ _ _ _ _ _ _ _ c.requires.window inv.answered more _ _ _ call (rw c.get_bit-bit.ensures.reads.numbers at c.replace_bit.ensures.writes);
-      allowed = may-next _ _ _ _ _ inv.allowed (omega arith) _ _ call;
+      answered = answered-next c.requires.window inv.answered more call (rw c.get_bit-bit.ensures.reads.numbers at c.replace_bit.ensures.writes);
+      allowed = may-next inv.allowed (omega arith) call;
       borrow = search rules;
     }
 

@@ -13,4 +13,5 @@ loop-index-preserved g c = λ plain.
     let long = length-list g.O.BitOrder.at c.requires in
     let so_far = c.loop-index.invariant plain in
     let wrote : HasWritten g.W.Write.write_str_gives c.loop-index.f (separator c.loop-index.index ++ bit_text c.bit_in.result) c.write_bit.new.f = search rules in
-    has_written_of_eq _ _ _ _ _ (join_by-more bit_text bits c.loop-index.index false (omega arith)) (has_written_append _ _ _ _ _ _ so_far (rw c.bit_in.ensures at wrote))
+    has_written_of_eq _ _ _ _ _ (join_by-more bit_text bits c.loop-index.index false (omega arith))
+    (has_written_append _ _ _ c.loop-index.f _ _ so_far (rw c.bit_in.ensures at wrote))

@@ -7,5 +7,5 @@ loop-ones-preserved c =
     let inv = c.loop-ones.invariant in
     let few = c.requires.room in
     let fits = c.loop-ones.auto.ones-fits.fits in
-    let more = ones-more _ _ _ _ _ _ inv c.loop-ones-test.true fits in
-    ones-next _ _ _ _ _ _ inv c.loop-ones-test.true fits (omega arith)
+    let more = ones-more inv c.loop-ones-test.true fits in
+    ones-next inv c.loop-ones-test.true fits (omega arith)

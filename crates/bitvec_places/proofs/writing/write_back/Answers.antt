@@ -6,4 +6,4 @@ pub loop-ones-preserved : goal.loop-ones-preserved
 loop-ones-preserved c =
     let enough = c.requires.room in
     let most = places-most c.args.base c.args.ones c.ranges.ones.fits in
-    back-next _ _ _ _ _ _ c.loop-ones.invariant c.loop-ones-test.true c.loop-ones.auto.ones-fits.fits (omega arith)
+    back-next c.loop-ones.invariant c.loop-ones-test.true c.loop-ones.auto.ones-fits.fits (omega arith)

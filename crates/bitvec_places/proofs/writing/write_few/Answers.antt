@@ -7,4 +7,4 @@ loop-ones-preserved c =
     let inv = c.loop-ones.invariant in
     let room = inv.written.room in
     let below = c.if-count-indices.true in
-    ones-next _ _ _ _ _ _ inv c.loop-ones-test.true c.loop-ones.auto.ones-fits.fits (omega arith)
+    ones-next inv c.loop-ones-test.true c.loop-ones.auto.ones-fits.fits (omega arith)

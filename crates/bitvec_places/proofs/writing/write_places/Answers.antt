@@ -51,8 +51,8 @@ loop-edge-preserved g c =
           rw (w.indices-is, w.count-is) (record {
             low = omega arith;
             high = within;
-            written = more-written _ _ now n inv.written _ more part k joined whole few same;
-            most = more-most _ _ now n inv.written _ more part k joined whole few same;
+            written = more-written inv.written _ more part k joined whole few same;
+            most = more-most inv.written _ more part k joined whole few same;
           })
       | else-word-ne0 w ↦
           let none = joined ∙ ap (λ (l : List ℕ). before ++ map (λ place. edge + place) l) (order-none g.O.BitOrder.at word w.if-word-ne0.false) ∙ append-nil before in
@@ -64,9 +64,9 @@ returns-else-count-indices-clause-count g c =
     let inv = c.loop-edge.invariant in
     let room = inv.written.room in
     let full = c.if-count-indices.false in
-    written-count _ _ _ _ inv.written _ _ (places-join c.args.want _ c.args.from c.loop-edge.edge c.args.window.len inv.low inv.high) inv.most (inr (omega arith))
+    written-count inv.written _ (places-join c.args.want _ c.args.from c.loop-edge.edge c.args.window.len inv.low inv.high) inv.most (inr (omega arith))
 
 pub returns-else-count-indices-clause-indices : goal.returns-else-count-indices-clause-indices
 returns-else-count-indices-clause-indices g c =
     let inv = c.loop-edge.invariant in
-    written-of _ _ _ _ inv.written _ _ (places-join c.args.want _ c.args.from c.loop-edge.edge c.args.window.len inv.low inv.high)
+    written-of inv.written _ (places-join c.args.want _ c.args.from c.loop-edge.edge c.args.window.len inv.low inv.high)
