@@ -74,12 +74,6 @@ until-all n t fits = omega arith
 at-most : (k n t : ℕ) → k ≤ n - t → k ≤ n
 at-most k n t fits = omega arith
 
-loads-fit : (m n k late rest all most : ℕ) → m + rest ≤ all + 1 → k + n ≤ rest → late ≤ most → m + n + (k + 1 + late) + 2 ≤ all + 4 + most
-loads-fit m n k late rest all most read elements more = omega arith
-
-stores-fit : (k late : ℕ) {h : ℕ} (j rest : ℕ) {all : ℕ} (most : ℕ) → h ≡ 1 → k + j ≤ rest → late ≤ most → all ≡ 1 + rest → k + late + h + j ≤ all + most
-stores-fit k late j rest most one elements more parts = omega arith
-
 -- ---- what its calls ask
 pub load_short-front-requires-clause-window : goal.load_short-front-requires-clause-window
 load_short-front-requires-clause-window g c = rw c.until.ensures (until-has _ c.requires.span.beside)
@@ -118,7 +112,10 @@ pub load_short-back-requires : goal.load_short-back-requires
 load_short-back-requires g c =
     let fits : c.head_of-head.result.1 ≤ c.args.from.len = rw c.requires.span.lengths at c.head_of-head.ensures.fits in
     rw (c.load_short-front.ensures.reads.numbers, c.after.ensures, c.whole_bits-passed.ensures.value, c.after-rest.ensures, c.after-behind.ensures, c.requires.span.lengths)
-    (record { window = after-has _ (after-has _ c.requires.span.beside fits) (div-mul-le_self _ _); bound = rest-short _ _ (width_some _ g.met.C.Elem.BitStore.width_law) })
+    (record {
+      window = after-has _ (after-has _ c.requires.span.beside fits) (div-mul-le_self _ _);
+      bound = rest-short _ _ (width_some _ g.met.C.Elem.BitStore.width_law);
+    })
 
 pub move_elements-requires-clause-towards : goal.move_elements-requires-clause-towards
 move_elements-requires-clause-towards g c =
@@ -166,4 +163,4 @@ returns-clause-cost g c =
     let head = rw (c.until-2.ensures, c.after-rest.ensures, until-all n t c.head_of-head.ensures.fits) at c.store_short.ensures.cost in
     let tail = rw (c.after-2.ensures, passed, c.after-rest.ensures) at c.store_short-2.ensures.cost in
     let last = touched-few b _ _ some (back-inside b c.args.to.start t n some c.head_of-head.ensures.long) in
-    Costs-edges g.C.CellsRead _ _ front back whole head (omega arith) tail last (loads-fit _ _ _ _ _ _ _ read elements late) (stores-fit _ _ _ _ _ one stored late written)
+    Costs-edges g.C.CellsRead _ _ front back whole head (omega arith) tail last (omega arith) (omega arith)
