@@ -64,15 +64,8 @@ span-whole {b} {xs} {ys} {left} {right} width span =
       lengths = refl;
     }
 
--- the bits before the first edge, of m or of n
-head-short : (b s t n m : ℕ) → t ≡ min n (b - s % b) → m - (m - t) ≤ b
-head-short b s t n m long = omega arith
-
 until-all : (n t : ℕ) → t ≤ n → n - (n - t) ≡ t
 until-all n t fits = omega arith
-
-at-most : (k n t : ℕ) → k ≤ n - t → k ≤ n
-at-most k n t fits = omega arith
 
 -- ---- what its calls ask
 pub load_short-front-requires-clause-window : goal.load_short-front-requires-clause-window
@@ -80,7 +73,7 @@ load_short-front-requires-clause-window g c = rw c.until.ensures (until-has _ c.
 
 pub load_short-front-requires-clause-bound : goal.load_short-front-requires-clause-bound
 load_short-front-requires-clause-bound g c =
-    rw c.until.ensures (head-short _ _ _ _ _ c.head_of-head.ensures.long)
+    rw c.until.ensures (omega arith)
 
 pub move_elements-requires-clause-span : goal.move_elements-requires-clause-span
 move_elements-requires-clause-span g c =
@@ -96,7 +89,7 @@ store_short-requires-clause-window g c =
     rw c.until-2.ensures (until-has _ (HasWindow-kept _ c.requires.span.window kept))
 
 pub store_short-requires-clause-bound : goal.store_short-requires-clause-bound
-store_short-requires-clause-bound g c = rw (c.until-2.ensures, c.after-rest.ensures) (head-short _ _ _ _ _ c.head_of-head.ensures.long)
+store_short-requires-clause-bound g c = rw (c.until-2.ensures, c.after-rest.ensures) (omega arith)
 
 pub after-requires-2-clause-end : goal.after-requires-2-clause-end
 after-requires-2-clause-end g c =
@@ -154,7 +147,7 @@ returns-clause-cost g c =
     let read = touched-split b c.args.from.start t m some source_fits in
     let elements = touched-split_whole b (c.args.from.start + t) (m - t) ((n - t) / b) some (rw (← lengths) whole_fits) in
     let stored = touched-split_whole b (c.args.to.start + t) (n - t) ((n - t) / b) some whole_fits in
-    let late = late-order b ((n - t) / b * b) n (at-most _ _ _ whole_fits) in
+    let late = late-order b ((n - t) / b * b) n (omega arith) in
     let one = touched-head b c.args.to.start t n some c.requires.some c.head_of-head.ensures.long in
     let written = touched-parts b c.args.to.start t n some c.requires.some c.head_of-head.ensures.long in
     let front = rw (c.until.ensures, until-all m t source_fits) at c.load_short-front.ensures.reads in
