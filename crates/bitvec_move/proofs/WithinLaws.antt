@@ -21,7 +21,7 @@ use Rattle.bitvec_words.specs.Elements.{elements_window, elements_window_from}
 use Rattle.bitvec_words.specs.FieldLaws.{Writes-none, element_of, list-both, list-whole}
 use Rattle.bitvec_words.specs.TouchedLaws.{head_edge, touched-after, touched-edge, touched-first, touched-inside}
 use Rattle.bitvec_words.specs.WholeLaws.{HasWindow-part, Writes-same, list-empty, list-same, touched-behind_from}
-use Rattle.bitvec_words.specs.Moves.{Copies, CopiesElements, CopiesSome, IsToward, late_words, moved_place, nth_place, waiting_place}
+use Rattle.bitvec_words.specs.Moves.{Copies, CopiesElements, CopiesSome, HasSkippedElements, IsToward, late_words, moved_place, nth_place, waiting_place}
 use Rattle.bitvec_words.specs.MovedPlaceLaws.{next-inside}
 use Rattle.bitvec_move.proofs.SwapLaws.{Writes-set, next_element}
 
@@ -158,7 +158,7 @@ CopiesSome-part true {b} {at} {old} first source skip count k m w {list} has mor
     }
 
 -- one more, of its bits
-pub nth-below : (later : Bool) (k n : ℕ) → k < n → nth_place later k n < n
+nth-below : (later : Bool) (k n : ℕ) → k < n → nth_place later k n < n
 nth-below false k n more = more
 nth-below true k n more = omega arith
 
@@ -177,16 +177,16 @@ CopiesSome-more later {b} {at} {old} {mid} first source skip count k v some has 
     (rw place (same ∙ sym (list-same b at old _ (elements_window_from b (source + nth_place later k count) skip 1) refl (omega arith))))
 
 -- what is carried, and read next, and joined of both
-pub list-joined_next : (later : Bool) {b : ℕ} (at : ℕ → ℕ → ℕ) {xs : List ℕ} (source skip count k : ℕ) {K : Type 0} (value : K → ℕ) (last next : K) {pair : K × K} → 0 < skip → skip < b → HasWindow b xs (elements_window_from b source skip count) → k < count
+pub list-joined_next : (later : Bool) {b : ℕ} (at : ℕ → ℕ → ℕ) {xs ys : List ℕ} {first source skip count : ℕ} (k : ℕ) {K : Type 0} (value : K → ℕ) (last next : K) {pair : K × K} → HasSkippedElements b ys xs first source skip count → k < count
     → element_bits b at (value last) ≡ element_bits b at (slice_index xs (source + waiting_place later k count)) → element_bits b at (value next) ≡ element_bits b at (slice_index xs (source + waiting_place later (k + 1) count))
     → pair ≡ (if later then (next, last) else (last, next))
     → drop skip (element_bits b at (value pair.0)) ++ take skip (element_bits b at (value pair.1)) ≡ list_in b at xs (record { start = (source + nth_place later k count) * b + skip; len = b })
-list-joined_next false {b} at {xs} source skip count k value last next some below has more carried read is =
+list-joined_next false {b} at {xs} {source = source} {skip} {count} k value last next skipped more carried read is =
     let place : source + (k + 1) ≡ source + k + 1 = omega arith in
-    rw (is, carried, read, place) (sym (list-both b at xs (source + k) skip below (next-inside b xs xs source skip count k has some more refl)))
-list-joined_next true {b} at {xs} source skip count k value last next some below has more carried read is =
+    rw (is, carried, read, place) (sym (list-both b at xs (source + k) skip skipped.bound (next-inside b xs xs source skip count k skipped.span.beside skipped.inside more refl)))
+list-joined_next true {b} at {xs} {source = source} {skip} {count} k value last next skipped more carried read is =
     let place : source + (count - k) ≡ source + (count - (k + 1)) + 1 = omega arith in
-    rw (is, carried, read, place) (sym (list-both b at xs (source + (count - (k + 1))) skip below (next-inside b xs xs source skip count (count - (k + 1)) has some (omega arith) refl)))
+    rw (is, carried, read, place) (sym (list-both b at xs (source + (count - (k + 1))) skip skipped.bound (next-inside b xs xs source skip count (count - (k + 1)) skipped.span.beside skipped.inside (omega arith) refl)))
 
 pub list-whole_next : (later : Bool) {b : ℕ} (at : ℕ → ℕ → ℕ) {xs : List ℕ} (source count k : ℕ) → 0 < b → HasWindow b xs (elements_window_from b source 0 count) → k < count
     → element_bits b at (slice_index xs (source + nth_place later k count)) ≡ list_in b at xs (record { start = (source + nth_place later k count) * b + 0; len = b })

@@ -130,9 +130,3 @@ CopiesSome-all later at old new first source skip count moved =
     let to : first + 0 ≡ first = omega arith in
     let from : source + 0 ≡ source = omega arith in
     rw (none, to, from) at moved
-
--- ---- places of elements
-
-pub waiting-below : (later : Bool) (k n : ℕ) → k ≤ n → waiting_place later k n ≤ n
-waiting-below false k n most = most
-waiting-below true k n most = omega arith

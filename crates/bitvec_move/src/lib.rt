@@ -31,7 +31,7 @@ fn head_of<T: BitStore>(window: Window) -> (Part, usize)
     (part, part.len())
 }
 
-/// How many bits an element has from the index `skip` on.
+/// How many bits an element has from the index `skip` on. Condition: `skip` is at most the width.
 #[inline(always)]
 fn bits_from<T: BitStore>(skip: usize) -> usize
     requires { skip ≤ T.BITS }

@@ -186,7 +186,8 @@ fn shift_carried<O: WordOrder, C: Cells, K: Carried<C::Elem>, const LATER: bool>
 /// where it is seen how much is inlined always.
 fn next_place<const LATER: bool>(passed: usize, count: usize) -> usize
     requires { passed < count }
-    ensures { result ≡ nth_place LATER passed count }
+    ensures place { result ≡ nth_place LATER passed count }
+    ensures fits { result < count }
 {
     if LATER { count - 1 - passed } else { passed }
 }
@@ -194,7 +195,8 @@ fn next_place<const LATER: bool>(passed: usize, count: usize) -> usize
 /// The place of the element that is read after so many others, of `count` and one more.
 pub(crate) fn read_place<const LATER: bool>(passed: usize, count: usize) -> usize
     requires { passed ≤ count }
-    ensures { result ≡ waiting_place LATER passed count }
+    ensures place { result ≡ waiting_place LATER passed count }
+    ensures fits { result ≤ count }
 {
     if LATER { count - passed } else { passed }
 }

@@ -1,4 +1,4 @@
--- Where elements, parts and windows lie, as calls need it. A width comes as `w`, the number in the code, which is `b`.
+-- Where elements, parts and windows lie, as calls need it. Some take a width as `w`, the number in the code, which is `b`.
 use Rattle.std.proofs.Common.{◌≡◌, ◌≢◌, ℕ, ◌+◌, ◌-◌, ◌*◌, ◌/◌, ◌%◌, ◌^◌, ◌<◌, ◌≤◌, min, List, length, refl, arith}
 use Rattle.std.proofs.Math.Nat.{mul-le-mul_left}
 use Rattle.bitvec_base.specs.declared.part.Part.{Part}
@@ -43,23 +43,23 @@ whole-window_from n width is has short =
     let len = has.within.len in
     rw is (record { fits = has.fits; within = record { start = omega arith; len = omega arith } })
 
-pub whole-span : {b w : ℕ} {xs ys : List ℕ} {left right : Window} → IsWidth b → w ≡ b → HasSpan b xs ys left right → left.start % b ≡ 0 → right.start % b ≡ 0
-    → HasSpan b xs ys (elements_window b (left.start / w) (left.len / w)) (elements_window b (right.start / w) (left.len / w))
-whole-span {b} {w} {xs} {ys} {left} {right} width is span edge right_edge =
+pub whole-span : {b : ℕ} {xs ys : List ℕ} {left right : Window} → IsWidth b → HasSpan b xs ys left right → left.start % b ≡ 0 → right.start % b ≡ 0
+    → HasSpan b xs ys (elements_window b (left.start / b) (left.len / b)) (elements_window b (right.start / b) (left.len / b))
+whole-span {b} {xs} {ys} {left} {right} width span edge right_edge =
     let lengths = span.lengths in
     record {
-      window = whole-window left.len width is span.window edge (omega arith);
-      beside = whole-window left.len width is span.beside right_edge (omega arith);
+      window = whole-window left.len width refl span.window edge (omega arith);
+      beside = whole-window left.len width refl span.beside right_edge (omega arith);
       lengths = refl;
     }
 
-pub whole-span_from : {b w : ℕ} {xs ys : List ℕ} {left right : Window} → IsWidth b → w ≡ b → HasSpan b xs ys left right → left.start % b ≡ 0
-    → HasSpan b xs ys (elements_window b (left.start / w) (left.len / w)) (elements_window_from b (right.start / w) (right.start % w) (left.len / w))
-whole-span_from {b} {w} {xs} {ys} {left} {right} width is span edge =
+pub whole-span_from : {b : ℕ} {xs ys : List ℕ} {left right : Window} → IsWidth b → HasSpan b xs ys left right → left.start % b ≡ 0
+    → HasSpan b xs ys (elements_window b (left.start / b) (left.len / b)) (elements_window_from b (right.start / b) (right.start % b) (left.len / b))
+whole-span_from {b} {xs} {ys} {left} {right} width span edge =
     let lengths = span.lengths in
     record {
-      window = whole-window left.len width is span.window edge (omega arith);
-      beside = whole-window_from left.len width is span.beside (omega arith);
+      window = whole-window left.len width refl span.window edge (omega arith);
+      beside = whole-window_from left.len width refl span.beside (omega arith);
       lengths = refl;
     }
 
@@ -70,22 +70,21 @@ tail-inside {b} {w} {xs} {window} n width is has short left =
     let more = rw is at left in
     rw is (element_of b (window.start / b + n / b) 0 (length xs) (omega arith))
 
-pub tail-part : {b w : ℕ} {xs : List ℕ} (ys : List ℕ) {window : Window} (n : ℕ) → IsWidth b → w ≡ b → HasWindow b xs window → n ≤ window.len → 0 < n % w
+pub tail-part : {b : ℕ} {xs : List ℕ} (ys : List ℕ) {window : Window} (n : ℕ) → IsWidth b → HasWindow b xs window → n ≤ window.len → 0 < n % b
     → length ys ≡ length xs
-    → HasPart b ys (record { element = window.start / w + n / w; from = 0; to = n % w })
-tail-part {b} {w} {xs} ys {window} n width is has short left same =
-    let inside = tail-inside n width is has short left in
-    let bound : n % w ≤ b = rw is (omega arith) in
-    record { element = omega arith; order = omega arith; bound = bound }
+    → HasPart b ys (record { element = window.start / b + n / b; from = 0; to = n % b })
+tail-part {b} {xs} ys {window} n width has short left same =
+    let inside = tail-inside n width refl has short left in
+    record { element = omega arith; order = omega arith; bound = omega arith }
 
-pub tail-span : {b w : ℕ} {xs mid ys : List ℕ} {left right : Window} → IsWidth b → w ≡ b → HasSpan b xs ys left right → 0 < left.len % w → length mid ≡ length xs
-    → HasPartSpan b mid ys (tail_part_of w left) (window_after (left.len / w * w) right)
-tail-span {b} {w} {xs} {mid} {ys} {left} width is span more same =
+pub tail-span : {b : ℕ} {xs mid ys : List ℕ} {left right : Window} → IsWidth b → HasSpan b xs ys left right → 0 < left.len % b → length mid ≡ length xs
+    → HasPartSpan b mid ys (tail_part_of b left) (window_after (left.len / b * b) right)
+tail-span {b} {xs} {mid} {ys} {left} width span more same =
     let lengths = span.lengths in
     let start = span.beside.within.start in
     let len = span.beside.within.len in
     record {
-      element = tail-part mid left.len width is span.window (omega arith) more same;
+      element = tail-part mid left.len width span.window (omega arith) more same;
       beside = record { fits = span.beside.fits; within = record { start = omega arith; len = omega arith } };
       lengths = omega arith;
       some = omega arith;

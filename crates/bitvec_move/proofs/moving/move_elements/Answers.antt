@@ -2,7 +2,6 @@ use Rattle.std.proofs.Common.{ℕ, ◌≡◌, ◌*◌, ◌<◌, ◌≤◌, arith
 use Rattle.std.proofs.lemmas.Bool.Decides.{nat_tests}
 use Rattle.bitvec_words.specs.Moves.{late_words}
 use Rattle.bitvec_words.specs.MovedPlaceLaws.{from-inside, from-word}
-use Rattle.bitvec_move.proofs.WordMoveLemmas.{waiting-below}
 use Rattle.bitvec_move.proofs.moving.move_elements.Goals as goal
 
 -- many bytes may load and store nine elements more
@@ -19,9 +18,9 @@ returns-then-goes_by_words-clause-cost g c =
 pub overflow_add-source : goal.overflow_add-source
 overflow_add-source g c =
     let some : 0 < c.args.moved.skip = omega arith in
-    record { fits = rw c.read_place.ensures (from-word _ _ _ _ g.met.C.Elem.BitStore.width_law c.requires.span.beside some (waiting-below _ 0 c.args.moved.count (omega arith))) }
+    record { fits = from-word _ _ _ _ g.met.C.Elem.BitStore.width_law c.requires.span.beside some c.read_place.ensures.fits }
 
 pub load-waiting-requires : goal.load-waiting-requires
 load-waiting-requires g c =
     let some : 0 < c.args.moved.skip = omega arith in
-    rw c.read_place.ensures (from-inside _ _ _ _ _ c.requires.span.beside some (waiting-below _ 0 c.args.moved.count (omega arith)) refl)
+    from-inside _ _ _ _ _ c.requires.span.beside some c.read_place.ensures.fits refl

@@ -64,21 +64,8 @@ span-whole {b} {xs} {ys} {left} {right} width span =
       lengths = refl;
     }
 
--- the bits before the first edge, of m or of n
-head-short : (b s t n m : ℕ) → t ≡ min n (b - s % b) → m - (m - t) ≤ b
-head-short b s t n m long = omega arith
-
 until-all : (n t : ℕ) → t ≤ n → n - (n - t) ≡ t
 until-all n t fits = omega arith
-
-at-most : (k n t : ℕ) → k ≤ n - t → k ≤ n
-at-most k n t fits = omega arith
-
-loads-fit : (m n k late rest all most : ℕ) → m + rest ≤ all + 1 → k + n ≤ rest → late ≤ most → m + n + (k + 1 + late) + 2 ≤ all + 4 + most
-loads-fit m n k late rest all most read elements more = omega arith
-
-stores-fit : (k late : ℕ) {h : ℕ} (j rest : ℕ) {all : ℕ} (most : ℕ) → h ≡ 1 → k + j ≤ rest → late ≤ most → all ≡ 1 + rest → k + late + h + j ≤ all + most
-stores-fit k late j rest most one elements more parts = omega arith
 
 -- ---- what its calls ask
 pub load_short-front-requires-clause-window : goal.load_short-front-requires-clause-window
@@ -86,7 +73,7 @@ load_short-front-requires-clause-window g c = rw c.until.ensures (until-has _ c.
 
 pub load_short-front-requires-clause-bound : goal.load_short-front-requires-clause-bound
 load_short-front-requires-clause-bound g c =
-    rw c.until.ensures (head-short _ _ _ _ _ c.head_of-head.ensures.long)
+    rw c.until.ensures (omega arith)
 
 pub move_elements-requires-clause-span : goal.move_elements-requires-clause-span
 move_elements-requires-clause-span g c =
@@ -102,7 +89,7 @@ store_short-requires-clause-window g c =
     rw c.until-2.ensures (until-has _ (HasWindow-kept _ c.requires.span.window kept))
 
 pub store_short-requires-clause-bound : goal.store_short-requires-clause-bound
-store_short-requires-clause-bound g c = rw (c.until-2.ensures, c.after-rest.ensures) (head-short _ _ _ _ _ c.head_of-head.ensures.long)
+store_short-requires-clause-bound g c = rw (c.until-2.ensures, c.after-rest.ensures) (omega arith)
 
 pub after-requires-2-clause-end : goal.after-requires-2-clause-end
 after-requires-2-clause-end g c =
@@ -118,7 +105,10 @@ pub load_short-back-requires : goal.load_short-back-requires
 load_short-back-requires g c =
     let fits : c.head_of-head.result.1 ≤ c.args.from.len = rw c.requires.span.lengths at c.head_of-head.ensures.fits in
     rw (c.load_short-front.ensures.reads.numbers, c.after.ensures, c.whole_bits-passed.ensures.value, c.after-rest.ensures, c.after-behind.ensures, c.requires.span.lengths)
-    (record { window = after-has _ (after-has _ c.requires.span.beside fits) (div-mul-le_self _ _); bound = rest-short _ _ (width_some _ g.met.C.Elem.BitStore.width_law) })
+    (record {
+      window = after-has _ (after-has _ c.requires.span.beside fits) (div-mul-le_self _ _);
+      bound = rest-short _ _ (width_some _ g.met.C.Elem.BitStore.width_law);
+    })
 
 pub move_elements-requires-clause-towards : goal.move_elements-requires-clause-towards
 move_elements-requires-clause-towards g c =
@@ -157,7 +147,7 @@ returns-clause-cost g c =
     let read = touched-split b c.args.from.start t m some source_fits in
     let elements = touched-split_whole b (c.args.from.start + t) (m - t) ((n - t) / b) some (rw (← lengths) whole_fits) in
     let stored = touched-split_whole b (c.args.to.start + t) (n - t) ((n - t) / b) some whole_fits in
-    let late = late-order b ((n - t) / b * b) n (at-most _ _ _ whole_fits) in
+    let late = late-order b ((n - t) / b * b) n (omega arith) in
     let one = touched-head b c.args.to.start t n some c.requires.some c.head_of-head.ensures.long in
     let written = touched-parts b c.args.to.start t n some c.requires.some c.head_of-head.ensures.long in
     let front = rw (c.until.ensures, until-all m t source_fits) at c.load_short-front.ensures.reads in
@@ -166,4 +156,4 @@ returns-clause-cost g c =
     let head = rw (c.until-2.ensures, c.after-rest.ensures, until-all n t c.head_of-head.ensures.fits) at c.store_short.ensures.cost in
     let tail = rw (c.after-2.ensures, passed, c.after-rest.ensures) at c.store_short-2.ensures.cost in
     let last = touched-few b _ _ some (back-inside b c.args.to.start t n some c.head_of-head.ensures.long) in
-    Costs-edges g.C.CellsRead _ _ front back whole head (omega arith) tail last (loads-fit _ _ _ _ _ _ _ read elements late) (stores-fit _ _ _ _ _ one stored late written)
+    Costs-edges g.C.CellsRead _ _ front back whole head (omega arith) tail last (omega arith) (omega arith)

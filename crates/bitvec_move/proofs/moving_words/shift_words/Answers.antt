@@ -34,7 +34,7 @@ pub loop-step-init : goal.loop-step-init
 loop-step-init g c =
     let later : Bool = not (nat_eq g.row.LATER 0) in
     let bytes = c.requires.bytes in let reads = c.load_skipped-held.ensures.reads in
-    let held = rw (bytes, c.load.ensures.value, reads.numbers, c.carried_place-to.ensures.to, c.read_place-from.ensures) at c.placed-last.ensures in
+    let held = rw (bytes, c.load.ensures.value, reads.numbers, c.carried_place-to.ensures.to, c.read_place-from.ensures.place) at c.placed-last.ensures in
     record {
       writes = rw (c.load.ensures.numbers, reads.numbers) (CopiesSome-none later _ _ _ _ _ c.requires.skipped.span.window);
       carried = rw bytes held;

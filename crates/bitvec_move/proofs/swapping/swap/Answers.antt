@@ -11,12 +11,6 @@ returns-then-left_window-eq0-clause-swaps g c =
       right_writes = Writes-none _ _ _ c.requires.beside (sym c.requires.lengths ∙ none) none;
     }
 
-pub swap_equal-requires-clause-phases : goal.swap_equal-requires-clause-phases
-swap_equal-requires-clause-phases g c = rw (c.phase.ensures, c.phase-2.ensures) at c.if-phase.true
-
-pub swap_shifted-requires-clause-phases : goal.swap_shifted-requires-clause-phases
-swap_shifted-requires-clause-phases g c = rw (c.phase.ensures, c.phase-2.ensures) at c.if-phase.false
-
 pub returns-then-phase-clause-cost : goal.returns-then-phase-clause-cost
 returns-then-phase-clause-cost g c = Costs-touched g.C.CellsRead _ g.met.C.Elem.BitStore.width_law refl c.swap_equal.ensures.cost
 

@@ -9,10 +9,10 @@ use Rattle.bitvec_move.proofs.swapping_equal.swap_aligned.Goals as goal
 
 pub swap_whole-requires : goal.swap_whole-requires
 swap_whole-requires g c =
-    rw (c.whole_elements-first.ensures, c.element-source.ensures) (whole-span g.met.C.Elem.BitStore.width_law refl c.requires.span c.requires.edge c.requires.right_edge)
+    rw (c.whole_elements-first.ensures, c.element-source.ensures) (whole-span g.met.C.Elem.BitStore.width_law c.requires.span c.requires.edge c.requires.right_edge)
 
 pub swap_part-requires-clause-part : goal.swap_part-requires-clause-part
-swap_part-requires-clause-part g c = rw c.tail_part-tail.ensures (tail-part _ _ g.met.C.Elem.BitStore.width_law refl c.requires.span.window (omega arith) (let left = rw c.tail_part-tail.ensures at c.if-tail-eq0.false in omega arith) c.swap_whole.ensures.swaps.writes.elements)
+swap_part-requires-clause-part g c = rw c.tail_part-tail.ensures (tail-part _ _ g.met.C.Elem.BitStore.width_law c.requires.span.window (omega arith) (let left = rw c.tail_part-tail.ensures at c.if-tail-eq0.false in omega arith) c.swap_whole.ensures.swaps.writes.elements)
 
 pub swap_part-requires-clause-source : goal.swap_part-requires-clause-source
 swap_part-requires-clause-source g c =

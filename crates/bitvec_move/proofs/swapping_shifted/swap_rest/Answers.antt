@@ -21,7 +21,7 @@ swap_across-last-requires g c =
     let some = width_some _ g.met.C.Elem.BitStore.width_law in
     let skipped = c.requires.skipped in
     record {
-      span = rw c.of-stretch.ensures (whole-span_from g.met.C.Elem.BitStore.width_law refl skipped.span skipped.edge);
+      span = rw c.of-stretch.ensures (whole-span_from g.met.C.Elem.BitStore.width_law skipped.span skipped.edge);
       inside = rw c.of-stretch.ensures skipped.inside;
       bound = rw c.of-stretch.ensures (mod_below c.args.right_window.start b some);
     }
@@ -36,7 +36,7 @@ pub swap_waiting-end-requires : goal.swap_waiting-end-requires
 swap_waiting-end-requires g c =
     let left = rw c.tail_part-tail.ensures at c.if-tail-eq0.false in
     let swaps = c.swap_across-last.ensures.swaps in
-    let met = tail-span g.met.C.Elem.BitStore.width_law refl c.requires.skipped.span (omega arith) swaps.writes.elements in
+    let met = tail-span g.met.C.Elem.BitStore.width_law c.requires.skipped.span (omega arith) swaps.writes.elements in
     rw (c.tail_part-tail.ensures, c.after-behind.ensures, c.whole_bits.ensures.value) (record {
       element = met.element;
       beside = HasWindow-kept _ met.beside (omega (arith, length-set {A = ℕ}));
