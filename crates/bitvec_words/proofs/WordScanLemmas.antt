@@ -172,29 +172,7 @@ module _ (b : ℕ) {xs : List ℕ} (first : ℕ) (width : IsWidth b) (wide : 64 
       rw (← list-whole b at xs first (omega arith), ← list-whole b at xs (first + 1) inside)
       (list-join at (record { start = first * b; len = b }) (record { start = (first + 1) * b; len = b }) has refl (omega arith) (rw (block_pair b width wide) (omega arith)))
 
--- the four words, e being the elements of each
-pub record Words (b : ℕ) (xs : List ℕ) (first e : ℕ) : Type 0 where
-  pub sum : 256 / b ≡ 4 * e
-  pub few : first + 4 * e < 2 ^ 64
-  pub one : HasWindow b xs (elements_window b first e)
-  pub two : HasWindow b xs (elements_window b (first + 1 * e) e)
-  pub three : HasWindow b xs (elements_window b (first + 2 * e) e)
-  pub four : HasWindow b xs (elements_window b (first + 3 * e) e)
-
-pub words : (b : ℕ) {xs : List ℕ} (first : ℕ) → IsWidth b → b ≤ 64 → HasWindow b xs (elements_window b first (256 / b)) → Words b xs first (64 / b)
-words b {xs} first width narrow has =
-    let sum = block_words b width narrow in
-    let inside = HasWindow-elements b (λ e i. i) xs first (256 / b) has in
-    let bound = elements-bound b (λ e i. i) xs first (256 / b) has (width_some b width) in
-    record {
-      sum = sum;
-      few = omega arith;
-      one = inside first (64 / b) (omega arith) (omega arith);
-      two = inside (first + 1 * (64 / b)) (64 / b) (omega arith) (omega arith);
-      three = inside (first + 2 * (64 / b)) (64 / b) (omega arith) (omega arith);
-      four = inside (first + 3 * (64 / b)) (64 / b) (omega arith) (omega arith);
-    }
-
+-- the four words
 pub list-block : {b : ℕ} (at : ℕ → ℕ → ℕ) {xs : List ℕ} (first : ℕ) → IsWidth b → b ≤ 64 → HasWindow b xs (elements_window b first (256 / b))
     → (list_in b at xs (elements_window b first (64 / b)) ++ list_in b at xs (elements_window b (first + 1 * (64 / b)) (64 / b)))
     ++ (list_in b at xs (elements_window b (first + 2 * (64 / b)) (64 / b)) ++ list_in b at xs (elements_window b (first + 3 * (64 / b)) (64 / b)))
