@@ -34,6 +34,15 @@ pub(crate) fn left_behind<T: BitStore>(bits: usize, first: usize, count: usize) 
     (first + passed, count - passed)
 }
 
+/// The place `found` in the element behind `count` elements. Condition: it is a `usize`.
+#[inline(always)]
+pub(crate) fn bit_behind<T: BitStore>(count: usize, found: usize) -> usize
+    requires { count * T.BITS + found < 2 ^ 64 }
+    ensures { result ≡ count * T.BITS + found }
+{
+    place_behind(T::BITS as usize, count, found)
+}
+
 /// The place `found` in the piece behind `count` pieces. Condition: it is a `usize`.
 #[inline(always)]
 pub(crate) fn place_behind(bits: usize, count: usize, found: usize) -> usize

@@ -8,7 +8,7 @@ ghost use Rattle.bitvec_words.specs.Elements.{elements_window};
 
 use crate::pieces::{behind_pieces, left_behind, pieces_of, place_behind};
 use crate::scanning::{first_in_whole, first_whole};
-use crate::split::split_head;
+use crate::split::{elements_from_edge, split_head};
 use crate::word_elements::{load_elements, load_word_behind, ordered};
 use crate::word_order::WordOrder;
 use crate::word_parts::WORD_BITS;
@@ -59,8 +59,8 @@ fn first_from_edge<O: WordOrder, C: CellsRead>(
     ensures value { result ≡ first_place want (list_in C.Elem.BITS O.at (C.numbers cells.old) window) }
     ensures reads { OnlyReadsAtMost C.CellsRead cells.old cells.new (touched_count C.Elem.BITS window.start window.len) }
 {
-    let count = window.len.div_ceil(C::Elem::BITS as usize);
-    let found = first_in_elements::<O, C>(cells, window.element::<C::Elem>(), count, want)?;
+    let (first, count) = elements_from_edge::<C::Elem>(window);
+    let found = first_in_elements::<O, C>(cells, first, count, want)?;
     (found < window.len).then_some(found)
 }
 

@@ -7,7 +7,7 @@ ghost use Rattle.bitvec_words.specs.Elements.{SameElements, elements_window};
 use crate::pieces::behind_pieces;
 use crate::word_order::WordOrder;
 use crate::word_parts::{WORD_BITS, moved};
-use bitvec_base::Lsb0;
+use bitvec_base::{Lsb0, elements_of};
 use bitvec_cells::{Cells, CellsRead};
 use bitvec_store::BitStore;
 
@@ -61,7 +61,7 @@ pub(crate) fn ordered<O: WordOrder, T: BitStore>(word: u64) -> u64
 {
     let bits = T::BITS as usize;
     let mut ordered = 0;
-    for step in 0..WORD_BITS / bits {
+    for step in 0..elements_of::<T>(WORD_BITS) {
         let element = moved::<Lsb0, u64, T>(word, step * bits, bits, 0);
         ordered |= moved::<O, T, u64>(element, 0, bits, step * bits);
     }
