@@ -27,9 +27,9 @@ pub count-few : {b : ℕ} (at : ℕ → ℕ → ℕ) {xs : List ℕ} {window : W
 count-few {b} at {xs} {window} {ones} has is = omega (arith, count-within at has is)
 
 -- one element more
-pub count-element : (b : ℕ) (at : ℕ → ℕ → ℕ) → Permutes b (at b) → (xs : List ℕ) (first count step v m n : ℕ) → 0 < b → HasWindow b xs (elements_window b first count) → step < count → v ≡ slice_index xs (first + step) → v < 2 ^ b
+pub count-element : (b : ℕ) (at : ℕ → ℕ → ℕ) → Permutes b (at b) → {xs : List ℕ} (first : ℕ) {count step v m n : ℕ} → 0 < b → HasWindow b xs (elements_window b first count) → step < count → v ≡ slice_index xs (first + step) → v < 2 ^ b
     → m ≡ count_by (λ (bit : Bool). bit) (list_in b at xs (elements_window b first step)) → n ≡ count_ones v → m + n ≡ count_by (λ (bit : Bool). bit) (list_in b at xs (elements_window b first (step + 1)))
-count-element b at p xs first count step v m n some has more is small before ones =
+count-element b at p {xs} first {count} {step} {v} some has more is small before ones =
     count-parts (list_in b at xs (elements_window b first step)) (element_bits b at (slice_index xs (first + step)))
     (list-element at first count step some has more) before
     (ones ∙ element-count b at p v small ∙ ap (λ (k : ℕ). count_by (λ (bit : Bool). bit) (element_bits b at k)) is)

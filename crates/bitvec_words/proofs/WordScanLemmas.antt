@@ -135,17 +135,14 @@ module _ (b : ℕ) (at : ℕ → ℕ → ℕ) (p : Permutes b (at b)) (lacking :
   lacks v none = first-passed b at p v lacking _ want refl none filled
 
   pub none-of_two : (v w : ℕ) → bit_or (bit_xor v lacking) (bit_xor w lacking) ≡ 0 → None ≡ first_place want (element_bits b at v ++ element_bits b at w)
-  none-of_two v w none = first-lacks want _ _ _ (lacks v (or_none _ _ none)) (lacks w (or_none_right _ _ none)) refl
+  none-of_two v w none = first-lacks want _ _ (lacks v (or_none (bit_xor v lacking) _ none)) (lacks w (or_none_right _ _ none)) refl
 
   pub none-of_four : (u v w x : ℕ) → bit_or (bit_or (bit_or (bit_xor u lacking) (bit_xor v lacking)) (bit_xor w lacking)) (bit_xor x lacking) ≡ 0
       → None ≡ first_place want ((element_bits b at u ++ element_bits b at v) ++ (element_bits b at w ++ element_bits b at x))
   none-of_four u v w x none =
       let three = or_none _ _ none in
       let two = or_none _ _ three in
-      first-lacks want _ _ _
-      (first-lacks want _ _ _ (lacks u (or_none _ _ two)) (lacks v (or_none_right _ _ two)) refl)
-      (first-lacks want _ _ _ (lacks w (or_none_right _ _ three)) (lacks x (or_none_right _ _ none)) refl)
-      refl
+      first-lacks want _ _ (none-of_two u v two) (first-lacks want _ _ (lacks w (or_none_right _ _ three)) (lacks x (or_none_right (bit_or (bit_or (bit_xor u lacking) (bit_xor v lacking)) (bit_xor w lacking)) _ none)) refl) refl
 
 pub length-two : (at : ℕ → ℕ → ℕ) (v w : ℕ) → 128 ≡ length (element_bits 64 at v ++ element_bits 64 at w)
 length-two at v w = omega (arith, length-element_bits, length-append {A = Bool})

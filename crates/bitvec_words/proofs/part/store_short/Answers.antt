@@ -21,7 +21,7 @@ returns-then-count-window-clause-writes g c =
     let step = c.len-count.ensures ∙ ap (λ (p : Part). p.to - p.from) part in
     let before = rw (c.toward_end.ensures, part) at c.store_part.ensures.writes in
     let after = rw (c.toward_start.ensures, part) at c.store_part-then-count-window.ensures.writes in
-    stored-two _ _ _ _ window _ _ some (omega arith) c.requires.bound step c.requires.window before _ c.if-count-window.true after
+    stored-two _ _ window _ some (omega arith) c.requires.bound step c.requires.window before c.if-count-window.true after
 
 pub returns-else-count-window-clause-writes : goal.returns-else-count-window-clause-writes
 returns-else-count-window-clause-writes g c =
@@ -30,7 +30,7 @@ returns-else-count-window-clause-writes g c =
     let part = c.first_part-head.ensures in
     let step = c.len-count.ensures ∙ ap (λ (p : Part). p.to - p.from) part in
     let before = rw (c.toward_end.ensures, part) at c.store_part.ensures.writes in
-    stored-one _ _ _ _ window _ _ some (omega arith) c.requires.bound step c.requires.window before (omega arith)
+    stored-one _ _ window _ some (omega arith) c.requires.bound step c.requires.window before (omega arith)
 
 pub returns-then-count-window-clause-cost : goal.returns-then-count-window-clause-cost
 returns-then-count-window-clause-cost g c =

@@ -27,7 +27,7 @@ returns-in_err-found g c =
 pub bit_behind-requires : goal.bit_behind-requires
 bit_behind-requires g c =
     let inv = c.loop-step.invariant in
-    let found = first-element_has _ g.O.BitOrder.at _ _ _ _ _ c.args.want (width_some _ g.met.C.Elem.BitStore.width_law) c.requires c.loop-step-test.true (rw inv.reads.numbers at c.load-element.ensures.value) inv.none _ c.in_ok-found.ensures in
+    let found = first-element_has _ g.O.BitOrder.at _ c.args.want (width_some _ g.met.C.Elem.BitStore.width_law) c.requires c.loop-step-test.true (rw inv.reads.numbers at c.load-element.ensures.value) inv.none _ c.in_ok-found.ensures in
     let below = first-inside _ g.O.BitOrder.at _ _ c.args.want _ c.requires found in
     omega arith
 
@@ -43,7 +43,7 @@ returns-then-to_u128-ne0 g c =
     let one = touched-first b ((c.args.first + c.loop-step.step) * b) (c.in_ok-found.found + 1) (omega arith) in
     rw c.bit_behind.ensures
     (record {
-      value = first-element_has b g.O.BitOrder.at _ _ _ _ _ c.args.want some c.requires c.loop-step-test.true (rw inv.reads.numbers at c.load-element.ensures.value) inv.none _ c.in_ok-found.ensures;
+      value = first-element_has b g.O.BitOrder.at _ c.args.want some c.requires c.loop-step-test.true (rw inv.reads.numbers at c.load-element.ensures.value) inv.none _ c.in_ok-found.ensures;
       reads = record { numbers = search rules; borrow = search rules; loads = omega arith; stores = search rules };
     })
 
@@ -53,7 +53,7 @@ loop-step-preserved g c =
     let inv = c.loop-step.invariant in
     let width = g.met.C.Elem.BitStore.width_law in
     record {
-      none = first-element_lacks b g.O.BitOrder.at _ _ _ _ _ c.args.want (width_some _ width) c.requires c.loop-step-test.true (rw inv.reads.numbers at c.load-element.ensures.value) inv.none
+      none = first-element_lacks b g.O.BitOrder.at _ c.args.want (width_some _ width) c.requires c.loop-step-test.true (rw inv.reads.numbers at c.load-element.ensures.value) inv.none
           (first-passed b g.O.BitOrder.at (g.met.O.BitOrder.permutes _ width) _ _ _ c.args.want c.xor.ensures (sym c.to_u128.ensures.number ∙ c.if-to_u128-ne0.false) c.filled-lacking.ensures);
       reads = search rules;
     }

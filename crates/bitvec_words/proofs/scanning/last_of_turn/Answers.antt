@@ -36,7 +36,7 @@ bit_behind-requires g c =
     let at = g.O.BitOrder.at in
     let inv = c.loop-step.invariant in
     let here = c.in_ok-found.ensures in
-    let found = last-element_has b at _ _ _ (c.loop-step.step - 1) _ c.args.want (width_some _ g.met.C.Elem.BitStore.width_law) c.requires (omega arith) (rw inv.reads.numbers at c.load-element.ensures.value) _ (omega arith) inv.none _ here in
+    let found = last-element_has b at _ c.args.want (width_some _ g.met.C.Elem.BitStore.width_law) c.requires (omega arith) (rw inv.reads.numbers at c.load-element.ensures.value) _ (omega arith) inv.none _ here in
     let below = last-inside at c.args.want c.requires found _ refl in
     omega arith
 
@@ -56,7 +56,7 @@ returns-then-to_u128-ne0 g c =
     let left = touched-whole b (c.args.first + upto) (c.args.count - upto) some in
     rw c.bit_behind.ensures
     (record {
-      value = last-element_has b at _ _ _ _ _ c.args.want some c.requires (omega arith) (rw inv.reads.numbers at c.load-element.ensures.value) _ (omega arith) inv.none _ here;
+      value = last-element_has b at _ c.args.want some c.requires (omega arith) (rw inv.reads.numbers at c.load-element.ensures.value) _ (omega arith) inv.none _ here;
       reads = record { numbers = load.numbers ∙ inv.reads.numbers; borrow = load.borrow ∙ inv.reads.borrow; loads = omega arith; stores = load.stores ∙ inv.reads.stores };
     })
 
@@ -68,7 +68,7 @@ loop-step-preserved g c =
     let load = c.load-element.ensures in
     let width = g.met.C.Elem.BitStore.width_law in
     record {
-      none = last-element_lacks b at _ _ _ _ _ c.args.want (width_some _ width) c.requires (omega arith) (rw inv.reads.numbers at c.load-element.ensures.value) _ (omega arith) inv.none
+      none = last-element_lacks b at _ c.args.want (width_some _ width) c.requires (omega arith) (rw inv.reads.numbers at c.load-element.ensures.value) _ (omega arith) inv.none
           (last-passed b at (g.met.O.BitOrder.permutes _ width) _ _ _ c.args.want c.xor.ensures (sym c.to_u128.ensures.number ∙ c.if-to_u128-ne0.false) c.filled-lacking.ensures);
       reads = record { numbers = load.numbers ∙ inv.reads.numbers; borrow = load.borrow ∙ inv.reads.borrow; loads = omega arith; stores = load.stores ∙ inv.reads.stores };
     }
