@@ -27,9 +27,6 @@ module _ {E C : Type 0} {access : Access C E} {old : C} where
       let loads = first.loads in
       record { numbers = second.numbers ∙ first.numbers; borrow = second.borrow ∙ first.borrow; loads = omega arith; stores = second.stores ∙ first.stores }
 
-  pub reads-four : {one two three new : C} {n all : ℕ} → OnlyReads access old one n → OnlyReads access one two n → OnlyReads access two three n → OnlyReads access three new n → all ≡ 4 * n → OnlyReads access old new all
-  reads-four first second third fourth sum = reads-sum (reads-sum (reads-sum first second refl) third refl) fourth (omega arith)
-
   pub reads-before : {mid new : C} {m n all : ℕ} → OnlyReads access old mid m → OnlyReads access mid new n → m + n ≤ all → OnlyReadsAtMost access old new all
   reads-before first second few = reads-most (reads-exact (reads-sum first second refl)) few
 

@@ -1,7 +1,7 @@
 -- The ones of a window by two parts of it, side by side, and of whole elements one after the other.
 use Rattle.std.specs.Prelude.{◌≡◌, ℕ, ◌+◌, ◌-◌, ◌*◌, ◌/◌, ◌%◌, ◌^◌, ◌<◌, ◌≤◌, zero, suc, Bool, List, count_by, count_ones, slice_index, refl}
 use Rattle.std.proofs.Common.{arith, sym, ◌∙◌, ap}
-use Rattle.std.proofs.Math.Nat.{mod-lt, add-mul, mul-le-mul_left, mul_assoc}
+use Rattle.std.proofs.Math.Nat.{mod-lt, mul-le-mul_left}
 use Rattle.std.proofs.lemmas.List.{same_lists}
 use Rattle.std.proofs.lemmas.Nat.{div-add-mod', pow_pos}
 use Rattle.std.proofs.lemmas.Nat.Bits.{bit_at_cat_low}
@@ -17,7 +17,7 @@ use Rattle.bitvec_words.specs.Elements.{elements_window}
 use Rattle.bitvec_words.specs.FieldLaws.{list-element}
 use Rattle.bitvec_words.specs.WholeLaws.{list-empty}
 use Rattle.bitvec_words.proofs.SplitLemmas.{count-parts, split-count}
-use Rattle.bitvec_words.proofs.WordScanLemmas.{Block, Parted, HasWindow-elements, block-at, list-elements_join, parted-blocks}
+use Rattle.bitvec_words.proofs.WordScanLemmas.{Block, Parted, block-at}
 
 -- no more than the window's bits
 pub count-within : {b : ℕ} (at : ℕ → ℕ → ℕ) {xs : List ℕ} {window : Window} {ones : ℕ} → HasWindow b xs window → ones ≡ count_by (λ (bit : Bool). bit) (list_in b at xs window) → ones ≤ window.len
@@ -27,9 +27,9 @@ pub count-few : {b : ℕ} (at : ℕ → ℕ → ℕ) {xs : List ℕ} {window : W
 count-few {b} at {xs} {window} {ones} has is = omega (arith, count-within at has is)
 
 -- one element more
-pub count-element : (b : ℕ) (at : ℕ → ℕ → ℕ) → Permutes b (at b) → (xs : List ℕ) (first count step v m n : ℕ) → 0 < b → HasWindow b xs (elements_window b first count) → step < count → v ≡ slice_index xs (first + step) → v < 2 ^ b
+pub count-element : (b : ℕ) (at : ℕ → ℕ → ℕ) → Permutes b (at b) → {xs : List ℕ} (first : ℕ) {count step v m n : ℕ} → 0 < b → HasWindow b xs (elements_window b first count) → step < count → v ≡ slice_index xs (first + step) → v < 2 ^ b
     → m ≡ count_by (λ (bit : Bool). bit) (list_in b at xs (elements_window b first step)) → n ≡ count_ones v → m + n ≡ count_by (λ (bit : Bool). bit) (list_in b at xs (elements_window b first (step + 1)))
-count-element b at p xs first count step v m n some has more is small before ones =
+count-element b at p {xs} first {count} {step} {v} some has more is small before ones =
     count-parts (list_in b at xs (elements_window b first step)) (element_bits b at (slice_index xs (first + step)))
     (list-element at first count step some has more) before
     (ones ∙ element-count b at p v small ∙ ap (λ (k : ℕ). count_by (λ (bit : Bool). bit) (element_bits b at k)) is)
@@ -70,11 +70,11 @@ module _ (b : ℕ) (at other : ℕ → ℕ → ℕ) (p : Permutes b (at b)) (q :
 itself : (b : ℕ) → Permutes b (λ i. i)
 itself b = record { below = λ i h. h; apart = λ i j h k e. e }
 
-pub word-ones : (v : ℕ) (list : List Bool) → element_bits 64 (λ c i. i) v ≡ list → v < 2 ^ 64 → count_ones v ≡ count_by (λ (bit : Bool). bit) list
-word-ones v list is small = element-count 64 (λ c i. i) (itself 64) v small ∙ ap (λ (l : List Bool). count_by (λ (bit : Bool). bit) l) is
+pub word-ones : (v : ℕ) {list : List Bool} → element_bits 64 (λ c i. i) v ≡ list → v < 2 ^ 64 → count_ones v ≡ count_by (λ (bit : Bool). bit) list
+word-ones v is small = element-count 64 (λ c i. i) (itself 64) v small ∙ ap (λ (l : List Bool). count_by (λ (bit : Bool). bit) l) is
 
 -- one block more
-module _ {b : ℕ} {xs : List ℕ} {first count size step : ℕ} (block : Block b xs first count size step) (m n : ℕ)
+module _ {b : ℕ} {xs : List ℕ} {first count size step m n : ℕ} (block : Block b xs first count size step)
     (before : m ≡ count_by (λ (bit : Bool). bit) (list_in b (λ c i. i) xs (elements_window b first (step * size)))) (here : n ≡ count_by (λ (bit : Bool). bit) (list_in b (λ c i. i) xs (elements_window b (first + step * size) size))) where
   pub count-block : m + n ≡ count_by (λ (bit : Bool). bit) (list_in b (λ c i. i) xs (elements_window b first ((step + 1) * size)))
   count-block = split-count block.next (λ c i. i) block.upto.front m n before here
@@ -86,40 +86,9 @@ module _ {b : ℕ} {xs : List ℕ} {first count size step : ℕ} (block : Block 
 pub word-block : (b : ℕ) {xs : List ℕ} (first count step : ℕ) → IsWidth b → HasWindow b xs (elements_window b first (count * (64 / b))) → step < count → Block b xs first (count * (64 / b)) (64 / b) step
 word-block b first count step width has more = let order = mul-le-mul_left (64 / b) more in block-at b (64 / b) first (count * (64 / b)) step width has (omega arith)
 
--- the words of some elements by four, and those that are left
-module _ (b : ℕ) {xs : List ℕ} (first count : ℕ) (width : IsWidth b) (has : HasWindow b xs (elements_window b first count)) where
-  pub fours : count / (64 / b) * (64 / b) ≡ count / (64 / b) / 4 * (4 * (64 / b)) + count / (64 / b) % 4 * (64 / b)
-  fours =
-      ap (λ (k : ℕ). k * (64 / b)) (sym (div-add-mod' (count / (64 / b)) 4)) ∙ add-mul (count / (64 / b) / 4 * 4) (count / (64 / b) % 4) (64 / b)
-      ∙ ap (λ (k : ℕ). k + count / (64 / b) % 4 * (64 / b)) (mul_assoc (count / (64 / b) / 4) 4 (64 / b))
-
-  pub parted-words : Parted b xs first count (count / (64 / b) * (64 / b))
-  parted-words = parted-blocks b 64 first count width has
-
-  pub four-block : (step : ℕ) → step < count / (64 / b) / 4 → Block b xs first count (4 * (64 / b)) step
-  four-block step more =
-      let order = mul-le-mul_left (4 * (64 / b)) more in
-      let sum = fours in
-      let parts = parted-words in
-      block-at b (4 * (64 / b)) first count step width has (omega arith)
-
-  pub HasWindow-left : HasWindow b xs (elements_window b (first + count / (64 / b) / 4 * (4 * (64 / b))) (count / (64 / b) % 4 * (64 / b)))
-  HasWindow-left =
-      let sum = fours in
-      let parts = parted-words in
-      HasWindow-elements b (λ e i. i) xs first count has (first + count / (64 / b) / 4 * (4 * (64 / b))) (count / (64 / b) % 4 * (64 / b)) (omega arith) (omega arith)
-
-  pub count-fours : (m n : ℕ) → m ≡ count_by (λ (bit : Bool). bit) (list_in b (λ c i. i) xs (elements_window b first (count / (64 / b) / 4 * (4 * (64 / b)))))
-      → n ≡ count_by (λ (bit : Bool). bit) (list_in b (λ c i. i) xs (elements_window b (first + count / (64 / b) / 4 * (4 * (64 / b))) (count / (64 / b) % 4 * (64 / b))))
-      → m + n ≡ count_by (λ (bit : Bool). bit) (list_in b (λ c i. i) xs (elements_window b first (count / (64 / b) * (64 / b))))
-  count-fours m n before left =
-      let parts = parted-words in
-      count-parts (list_in b (λ c i. i) xs (elements_window b first (count / (64 / b) / 4 * (4 * (64 / b))))) (list_in b (λ c i. i) xs (elements_window b (first + count / (64 / b) / 4 * (4 * (64 / b))) (count / (64 / b) % 4 * (64 / b))))
-      (list-elements_join b (λ c i. i) xs first count has first (first + count / (64 / b) / 4 * (4 * (64 / b))) (count / (64 / b) / 4 * (4 * (64 / b))) (count / (64 / b) % 4 * (64 / b)) (count / (64 / b) * (64 / b)) (omega arith) (omega arith) refl fours) before left
-
--- the words of whole elements, and the elements that are left
-pub count-left : {b : ℕ} {xs : List ℕ} {first count passed : ℕ} → Parted b xs first count passed → (at : ℕ → ℕ → ℕ) → Permutes b (at b) → (m n : ℕ) → 0 < b
+-- words of whole elements, and the elements that are left
+pub count-left : {b : ℕ} {xs : List ℕ} {first count passed m n : ℕ} → Parted b xs first count passed → (at : ℕ → ℕ → ℕ) → Permutes b (at b) → 0 < b
     → m ≡ count_by (λ (bit : Bool). bit) (list_in b (λ c i. i) xs (elements_window b first passed)) → n ≡ count_by (λ (bit : Bool). bit) (list_in b at xs (elements_window b (first + passed) (count - passed)))
     → m + n ≡ count_by (λ (bit : Bool). bit) (list_in b at xs (elements_window b first count))
-count-left {b} {xs} {first} {count} {passed} parts at p m n some words left =
+count-left {b} {xs} {first} {count} {passed} {m} {n} parts at p some words left =
     split-count parts.split at parts.all m n (words ∙ count-orders b (λ c i. i) at (itself b) p xs first passed some parts.front) left

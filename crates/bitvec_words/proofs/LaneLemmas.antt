@@ -98,14 +98,14 @@ halves : (at : ℕ → ℕ → ℕ) (v first second : ℕ)
     → element_bits 128 at v ≡ element_bits 64 at first ++ element_bits 64 at second
 halves at v first second one other = same_lists _ _ (grind (arith, length-element_bits, places)) (λ i d inside. grind (arith, places, length-element_bits, get-element_bits, one i, other i))
 
-halves-low : (at : ℕ → ℕ → ℕ) → ((b : ℕ) → RunsFrom false b at) → (x y : ℕ) → x < 2 ^ 64 → element_bits 128 at (y * 2 ^ 64 + x) ≡ element_bits 64 at x ++ element_bits 64 at y
-halves-low at ends x y small =
+halves-low : (at : ℕ → ℕ → ℕ) → ((b : ℕ) → RunsFrom false b at) → {x : ℕ} (y : ℕ) → x < 2 ^ 64 → element_bits 128 at (y * 2 ^ 64 + x) ≡ element_bits 64 at x ++ element_bits 64 at y
+halves-low at ends {x} y small =
     halves at (y * 2 ^ 64 + x) x y
     (λ i low. ap (bit_at (y * 2 ^ 64 + x)) (ends 128 i (omega arith)) ∙ bit_at_cat_low y 64 x i low ∙ ap (bit_at x) (sym (ends 64 i low)))
     (λ i high below. ap (bit_at (y * 2 ^ 64 + x)) (ends 128 i below) ∙ bit_at_cat_high y 64 x i small high ∙ ap (bit_at y) (sym (ends 64 (i - 64) (omega arith))))
 
-halves-high : (at : ℕ → ℕ → ℕ) → ((b : ℕ) → RunsFrom true b at) → (x y : ℕ) → x < 2 ^ 64 → element_bits 128 at (y * 2 ^ 64 + x) ≡ element_bits 64 at y ++ element_bits 64 at x
-halves-high at ends x y small =
+halves-high : (at : ℕ → ℕ → ℕ) → ((b : ℕ) → RunsFrom true b at) → {x : ℕ} (y : ℕ) → x < 2 ^ 64 → element_bits 128 at (y * 2 ^ 64 + x) ≡ element_bits 64 at y ++ element_bits 64 at x
+halves-high at ends {x} y small =
     halves at (y * 2 ^ 64 + x) y x
     (λ i low.
     let place : 128 - 1 - i - 64 ≡ 64 - 1 - i = omega arith in
@@ -114,15 +114,16 @@ halves-high at ends x y small =
     let place : 128 - 1 - i ≡ 64 - 1 - (i - 64) = omega arith in
     ap (bit_at (y * 2 ^ 64 + x)) (ends 128 i below) ∙ bit_at_cat_low y 64 x (128 - 1 - i) (omega arith) ∙ ap (bit_at x) (place ∙ sym (ends 64 (i - 64) (omega arith))))
 
--- ---- four lists of one length, joined from a place in the first one, and in the second
+-- ---- four words, joined from a place in the first one, and in the second
 
-joined-before : (n k : ℕ) (p q r s : List Bool) → length p ≡ n → length q ≡ n → length r ≡ n → length s ≡ n → k ≤ n
-    → (drop k p ++ take k q) ++ (drop k q ++ take k r) ≡ drop k (p ++ q) ++ take k (r ++ s)
-joined-before n k p q r s hp hq hr hs bound = same_lists _ _ (search (rules, places)) (λ i d inside. grind (arith, places))
+module _ (at : ℕ → ℕ → ℕ) (x y z w : ℕ) {k : ℕ} (bound : k ≤ 64) where
+  joined-before : (drop k (element_bits 64 at x) ++ take k (element_bits 64 at y)) ++ (drop k (element_bits 64 at y) ++ take k (element_bits 64 at z))
+      ≡ drop k (element_bits 64 at x ++ element_bits 64 at y) ++ take k (element_bits 64 at z ++ element_bits 64 at w)
+  joined-before = same_lists _ _ (grind (arith, places, length-element_bits)) (λ i d inside. grind (arith, places, length-element_bits))
 
-joined-behind : (n k : ℕ) (p q r s : List Bool) → length p ≡ n → length q ≡ n → length r ≡ n → length s ≡ n → k ≤ n
-    → (drop k q ++ take k r) ++ (drop k r ++ take k s) ≡ drop (n + k) (p ++ q) ++ take (n + k) (r ++ s)
-joined-behind n k p q r s hp hq hr hs bound = same_lists _ _ (search (rules, places)) (λ i d inside. grind (arith, places))
+  joined-behind : (drop k (element_bits 64 at y) ++ take k (element_bits 64 at z)) ++ (drop k (element_bits 64 at z) ++ take k (element_bits 64 at w))
+      ≡ drop (64 + k) (element_bits 64 at x ++ element_bits 64 at y) ++ take (64 + k) (element_bits 64 at z ++ element_bits 64 at w)
+  joined-behind = same_lists _ _ (grind (arith, places, length-element_bits)) (λ i d inside. grind (arith, places, length-element_bits))
 
 -- ---- numbers of two words, joined
 
@@ -131,24 +132,24 @@ pub number-joined-before : (high : Bool) {at : ℕ → ℕ → ℕ} → ((b : �
     → element_bits 128 at (number_of_words words) ≡ drop k (element_bits 128 at (number_of_words first)) ++ take k (element_bits 128 at (number_of_words second))
 number-joined-before true {at} ends {k} bound first second between words one other made is joined =
     let j = rw is at joined in
-    rw (halves-high at ends _ _ one.low, halves-high at ends _ _ other.low, halves-high at ends _ _ made.low, j.low, j.high)
-    (joined-before 64 k _ _ _ _ (length-element_bits 64 at _) (length-element_bits 64 at _) (length-element_bits 64 at _) (length-element_bits 64 at _) bound)
+    rw (halves-high at ends _ one.low, halves-high at ends _ other.low, halves-high at ends _ made.low, j.low, j.high)
+    (joined-before at _ _ _ _ bound)
 number-joined-before false {at} ends {k} bound first second between words one other made is joined =
     let j = rw is at joined in
-    rw (halves-low at ends _ _ one.low, halves-low at ends _ _ other.low, halves-low at ends _ _ made.low, j.low, j.high)
-    (joined-before 64 k _ _ _ _ (length-element_bits 64 at _) (length-element_bits 64 at _) (length-element_bits 64 at _) (length-element_bits 64 at _) bound)
+    rw (halves-low at ends _ one.low, halves-low at ends _ other.low, halves-low at ends _ made.low, j.low, j.high)
+    (joined-before at _ _ _ _ bound)
 
 pub number-joined-behind : (high : Bool) {at : ℕ → ℕ → ℕ} → ((b : ℕ) → RunsFrom high b at) → {k skip : ℕ} → k ≤ 64 → skip ≡ 64 + k → (first second between words : List ℕ)
     → AreWords first → AreWords second → AreWords words → between ≡ words_between high first second → AreJoined at k between second words
     → element_bits 128 at (number_of_words words) ≡ drop skip (element_bits 128 at (number_of_words first)) ++ take skip (element_bits 128 at (number_of_words second))
 number-joined-behind true {at} ends {k} bound sum first second between words one other made is joined =
     let j = rw is at joined in
-    rw (sum, halves-high at ends _ _ one.low, halves-high at ends _ _ other.low, halves-high at ends _ _ made.low, j.low, j.high)
-    (joined-behind 64 k _ _ _ _ (length-element_bits 64 at _) (length-element_bits 64 at _) (length-element_bits 64 at _) (length-element_bits 64 at _) bound)
+    rw (sum, halves-high at ends _ one.low, halves-high at ends _ other.low, halves-high at ends _ made.low, j.low, j.high)
+    (joined-behind at _ _ _ _ bound)
 number-joined-behind false {at} ends {k} bound sum first second between words one other made is joined =
     let j = rw is at joined in
-    rw (sum, halves-low at ends _ _ one.low, halves-low at ends _ _ other.low, halves-low at ends _ _ made.low, j.low, j.high)
-    (joined-behind 64 k _ _ _ _ (length-element_bits 64 at _) (length-element_bits 64 at _) (length-element_bits 64 at _) (length-element_bits 64 at _) bound)
+    rw (sum, halves-low at ends _ one.low, halves-low at ends _ other.low, halves-low at ends _ made.low, j.low, j.high)
+    (joined-behind at _ _ _ _ bound)
 
 -- the two words between
 pub between-high : {high : Bool} {first second : List ℕ} → high ≡ true → AreWords first → AreWords second

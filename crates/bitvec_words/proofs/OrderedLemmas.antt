@@ -118,7 +118,7 @@ module _ (b : ℕ) (at : ℕ → ℕ → ℕ) (p : Permutes b (at b)) (width : I
 
 module _ (b : ℕ) (at : ℕ → ℕ → ℕ) (p : Permutes b (at b)) (xs : List ℕ) (first : ℕ) (width : IsWidth b) (narrow : b ≤ 64) (has : HasWindow b xs (elements_window b first (256 / b))) (want : Bool) (one two three four : ℕ)
     (loaded : element_bits 64 low one ≡ list_in b low xs (elements_window b first (64 / b)))
-    (loaded-two : element_bits 64 low two ≡ list_in b low xs (elements_window b (first + 64 / b) (64 / b)))
+    (loaded-two : element_bits 64 low two ≡ list_in b low xs (elements_window b (first + 1 * (64 / b)) (64 / b)))
     (loaded-three : element_bits 64 low three ≡ list_in b low xs (elements_window b (first + 2 * (64 / b)) (64 / b)))
     (loaded-four : element_bits 64 low four ≡ list_in b low xs (elements_window b (first + 3 * (64 / b)) (64 / b))) where
   some : 0 < b
@@ -158,7 +158,7 @@ module _ (b : ℕ) (at : ℕ → ℕ → ℕ) (p : Permutes b (at b)) (xs : List
       let words = block_words b width narrow in
       rw (
         ordered first (omega arith) (omega arith) one ordered_one loaded same,
-        ordered (first + 64 / b) (omega arith) (omega arith) two ordered_two loaded-two same-two,
+        ordered (first + 1 * (64 / b)) (omega arith) (omega arith) two ordered_two loaded-two same-two,
         ordered (first + 2 * (64 / b)) (omega arith) (omega arith) three ordered_three loaded-three same-three,
         ordered (first + 3 * (64 / b)) (omega arith) (omega arith) four ordered_four loaded-four same-four,
       )

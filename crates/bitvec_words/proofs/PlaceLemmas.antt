@@ -2,23 +2,13 @@
 use Rattle.std.specs.Prelude.{◌≡◌, ℕ, ◌+◌, ◌/◌, ◌%◌, ◌<◌, ◌≤◌, List, length}
 use Rattle.std.proofs.Common.{arith}
 use Rattle.std.proofs.Math.Nat.{mul-le-mul_left}
-use Rattle.std.proofs.lemmas.Nat.{mod_below}
 use Rattle.bitvec_base.specs.declared.window.Window.{Window}
 use Rattle.bitvec_base.specs.Memory.{HasWindow}
 use Rattle.bitvec_store.specs.Width.{IsWidth}
-use Rattle.bitvec_store.specs.WidthLaws.{width_some}
 use Rattle.bitvec_words.specs.Elements.{elements_window}
 use Rattle.bitvec_words.specs.FieldLaws.{element_of}
 use Rattle.bitvec_words.specs.Front.{front_window}
 use Rattle.bitvec_words.specs.WholeLaws.{HasWindow-part, whole-all}
-use Rattle.bitvec_words.specs.WordLaws.{width-some}
-
--- an index of an element
-pub index-within : {b w : ℕ} (s : ℕ) → IsWidth b → w ≡ b → s % w ≤ w
-index-within {b} {w} s width is = let below = mod_below s w (width-some width is) in omega arith
-
-pub index-below : {b w : ℕ} (s : ℕ) → IsWidth b → w ≡ b → s % w < b
-index-below {b} s width is = rw is (mod_below s b (width_some b width))
 
 -- ---- a front, and the elements of a word
 

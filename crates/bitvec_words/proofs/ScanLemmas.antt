@@ -23,14 +23,14 @@ use Rattle.bitvec_words.specs.TouchedLaws.{touched-first, touched-whole}
 -- ---- lists
 
 -- the front has the bit, or lacks it and what is behind has it, or both lack it
-pub first-front : (want : Bool) (front rest whole : List Bool) (i : ℕ) → Some i ≡ first_place want front → front ++ rest ≡ whole → Some i ≡ first_place want whole
-first-front want front rest whole i here next = rw (← next, first_place-append want front rest, ← here) refl
+pub first-front : (want : Bool) (front rest : List Bool) {whole : List Bool} {i : ℕ} → Some i ≡ first_place want front → front ++ rest ≡ whole → Some i ≡ first_place want whole
+first-front want front rest here next = rw (← next, first_place-append want front rest, ← here) refl
 
 pub first-behind : (want : Bool) (front rest : List Bool) {whole : List Bool} {n : ℕ} (i : ℕ) → None ≡ first_place want front → Some i ≡ first_place want rest → n ≡ length front → front ++ rest ≡ whole → Some (n + i) ≡ first_place want whole
 first-behind want front rest i none here long next = rw (← next, first_place-append want front rest, ← none, ← here, long) refl
 
-pub first-lacks : (want : Bool) (front rest whole : List Bool) → None ≡ first_place want front → None ≡ first_place want rest → front ++ rest ≡ whole → None ≡ first_place want whole
-first-lacks want front rest whole none here next = rw (← next, first_place-append want front rest, ← none, ← here) refl
+pub first-lacks : (want : Bool) (front rest : List Bool) {whole : List Bool} → None ≡ first_place want front → None ≡ first_place want rest → front ++ rest ≡ whole → None ≡ first_place want whole
+first-lacks want front rest none here next = rw (← next, first_place-append want front rest, ← none, ← here) refl
 
 -- what is behind has it, or lacks it, and then the front decides
 pub last-behind : (want : Bool) (front rest : List Bool) {whole : List Bool} {n : ℕ} (i : ℕ) → Some i ≡ last_place want rest → n ≡ length front → front ++ rest ≡ whole → Some (n + i) ≡ last_place want whole

@@ -21,7 +21,7 @@ range-started : (list : List Bool) (n m e : ℕ) → n + e ≡ m → m ≤ lengt
 unfolding shifted_start
 range-started list n m e end inside = same_lists _ _ (search (rules, places)) (λ i d below. grind (arith, places))
 
-module _ (b : ℕ) (at : ℕ → ℕ → ℕ) (old mid : List ℕ) (window : Window) (v t : ℕ) (some : 0 < b) (more : 0 < window.len) (short : window.len ≤ b) (step : t ≡ (first_part_of b window).to - (first_part_of b window).from) (has : HasWindow b old window)
+module _ (b : ℕ) (at : ℕ → ℕ → ℕ) {old mid : List ℕ} (window : Window) (v : ℕ) {t : ℕ} (some : 0 < b) (more : 0 < window.len) (short : window.len ≤ b) (step : t ≡ (first_part_of b window).to - (first_part_of b window).from) (has : HasWindow b old window)
     (before : Writes b at old mid (part_window b (first_part_of b window)) (slice_range (shifted_end (first_part_of b window).from (element_bits b at v)) (first_part_of b window).from (first_part_of b window).to)) where
   abbrev bits : List Bool
   bits = element_bits b at v
@@ -44,10 +44,10 @@ module _ (b : ℕ) (at : ℕ → ℕ → ℕ) (old mid : List ℕ) (window : Win
       let same : t ≡ window.len = omega arith in
       rw same at stored-first
 
-  pub stored-two : (new : List ℕ) → t < window.len
+  pub stored-two : {new : List ℕ} → t < window.len
       → Writes b at mid new (part_window b (record { element = window.start / b + 1; from = 0; to = window.len - t })) (slice_range (shifted_start t bits) 0 (window.len - t))
       → Writes b at old new window (take window.len bits)
-  stored-two new left after =
+  stored-two {new} left after =
       let tail : Part = record { element = window.start / b + 1; from = 0; to = window.len - t } in
       let len = first-len b window some more in
       let wide = length-element_bits b at v in

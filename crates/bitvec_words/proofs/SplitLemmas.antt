@@ -83,10 +83,10 @@ module _ {b : ℕ} {front rest window : Window} (split : Split b front rest wind
 
     module _ (want : Bool) where
       pub split-found : (i : ℕ) → Some i ≡ first_place want (list_in b at xs front) → Some i ≡ first_place want (list_in b at xs window)
-      split-found i here = first-front want _ _ _ i here list-split
+      split-found i here = first-front want _ _ here list-split
 
       pub split-lacks : None ≡ first_place want (list_in b at xs front) → None ≡ first_place want (list_in b at xs rest) → None ≡ first_place want (list_in b at xs window)
-      split-lacks none here = first-lacks want _ _ _ none here list-split
+      split-lacks none here = first-lacks want _ _ none here list-split
 
       pub split-behind : (i : ℕ) → None ≡ first_place want (list_in b at xs front) → Some i ≡ first_place want (list_in b at xs rest) → Some (front.len + i) ≡ first_place want (list_in b at xs window)
       split-behind i none here = first-behind want _ _ i none here front-long list-split
@@ -191,7 +191,7 @@ elements-split b first count n some within =
 
 -- ---- one of them, v, and those before it or behind it
 
-module _ (b : ℕ) (at : ℕ → ℕ → ℕ) (xs : List ℕ) (first count step v : ℕ) (want : Bool) (some : 0 < b) (has : HasWindow b xs (elements_window b first count)) (more : step < count) (is : v ≡ slice_index xs (first + step)) where
+module _ (b : ℕ) (at : ℕ → ℕ → ℕ) {xs : List ℕ} (first : ℕ) {count step v : ℕ} (want : Bool) (some : 0 < b) (has : HasWindow b xs (elements_window b first count)) (more : step < count) (is : v ≡ slice_index xs (first + step)) where
   list-one : element_bits b at v ≡ list_in b at xs (elements_window b (first + step) 1)
   list-one =
       let order = mul-le-mul_left b more in

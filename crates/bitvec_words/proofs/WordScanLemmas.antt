@@ -113,6 +113,16 @@ module _ {b : ℕ} {xs : List ℕ} {first count size step : ℕ} (block : Block 
     pub first-block_few : step * bits + i < 2 ^ 64
     first-block_few = rw (← blocks-bits step size b bits is) (split-few block.next at block.upto.front want _ none here)
 
+-- behind all blocks of s bits, which lack the bit
+module _ {b : ℕ} (s : ℕ) {xs : List ℕ} {first count i : ℕ} (parts : Parted b xs first count (count / (s / b) * (s / b))) (whole : s / b * b ≡ s) (at : ℕ → ℕ → ℕ) (want : Bool)
+    (none : None ≡ first_place want (list_in b at xs (elements_window b first (count / (s / b) * (s / b)))))
+    (here : Some i ≡ first_place want (list_in b at xs (elements_window b (first + count / (s / b) * (s / b)) (count - count / (s / b) * (s / b))))) where
+  pub blocks-has : Some (count / (s / b) * s + i) ≡ first_place want (list_in b at xs (elements_window b first count))
+  blocks-has = rw (← blocks-bits (count / (s / b)) (s / b) b s whole) (split-behind parts.split at parts.all want _ none here)
+
+  pub blocks-few : count / (s / b) * s + i < 2 ^ 64
+  blocks-few = rw (← blocks-bits (count / (s / b)) (s / b) b s whole) (split-few parts.split at parts.all want _ none here)
+
 -- ---- what two lists lack together, each of them lacks
 
 none_front : (front behind : Option ℕ) (n : ℕ) → None ≡ option_or front (option_map (λ j. n + j) behind) → None ≡ front
@@ -125,17 +135,14 @@ module _ (b : ℕ) (at : ℕ → ℕ → ℕ) (p : Permutes b (at b)) (lacking :
   lacks v none = first-passed b at p v lacking _ want refl none filled
 
   pub none-of_two : (v w : ℕ) → bit_or (bit_xor v lacking) (bit_xor w lacking) ≡ 0 → None ≡ first_place want (element_bits b at v ++ element_bits b at w)
-  none-of_two v w none = first-lacks want _ _ _ (lacks v (or_none _ _ none)) (lacks w (or_none_right _ _ none)) refl
+  none-of_two v w none = first-lacks want _ _ (lacks v (or_none (bit_xor v lacking) _ none)) (lacks w (or_none_right _ _ none)) refl
 
   pub none-of_four : (u v w x : ℕ) → bit_or (bit_or (bit_or (bit_xor u lacking) (bit_xor v lacking)) (bit_xor w lacking)) (bit_xor x lacking) ≡ 0
       → None ≡ first_place want ((element_bits b at u ++ element_bits b at v) ++ (element_bits b at w ++ element_bits b at x))
   none-of_four u v w x none =
       let three = or_none _ _ none in
       let two = or_none _ _ three in
-      first-lacks want _ _ _
-      (first-lacks want _ _ _ (lacks u (or_none _ _ two)) (lacks v (or_none_right _ _ two)) refl)
-      (first-lacks want _ _ _ (lacks w (or_none_right _ _ three)) (lacks x (or_none_right _ _ none)) refl)
-      refl
+      first-lacks want _ _ (none-of_two u v two) (first-lacks want _ _ (lacks w (or_none_right _ _ three)) (lacks x (or_none_right (bit_or (bit_or (bit_xor u lacking) (bit_xor v lacking)) (bit_xor w lacking)) _ none)) refl) refl
 
 pub length-two : (at : ℕ → ℕ → ℕ) (v w : ℕ) → 128 ≡ length (element_bits 64 at v ++ element_bits 64 at w)
 length-two at v w = omega (arith, length-element_bits, length-append {A = Bool})
@@ -162,31 +169,9 @@ module _ (b : ℕ) {xs : List ℕ} (first : ℕ) (width : IsWidth b) (wide : 64 
       rw (← list-whole b at xs first (omega arith), ← list-whole b at xs (first + 1) inside)
       (list-join at (record { start = first * b; len = b }) (record { start = (first + 1) * b; len = b }) has refl (omega arith) (rw (block_pair b width wide) (omega arith)))
 
--- the four words, e being the elements of each
-pub record Words (b : ℕ) (xs : List ℕ) (first e : ℕ) : Type 0 where
-  pub sum : 256 / b ≡ 4 * e
-  pub few : first + 4 * e < 2 ^ 64
-  pub one : HasWindow b xs (elements_window b first e)
-  pub two : HasWindow b xs (elements_window b (first + e) e)
-  pub three : HasWindow b xs (elements_window b (first + 2 * e) e)
-  pub four : HasWindow b xs (elements_window b (first + 3 * e) e)
-
-pub words : (b : ℕ) {xs : List ℕ} (first : ℕ) → IsWidth b → b ≤ 64 → HasWindow b xs (elements_window b first (256 / b)) → Words b xs first (64 / b)
-words b {xs} first width narrow has =
-    let sum = block_words b width narrow in
-    let inside = HasWindow-elements b (λ e i. i) xs first (256 / b) has in
-    let bound = elements-bound b (λ e i. i) xs first (256 / b) has (width_some b width) in
-    record {
-      sum = sum;
-      few = omega arith;
-      one = inside first (64 / b) (omega arith) (omega arith);
-      two = inside (first + 64 / b) (64 / b) (omega arith) (omega arith);
-      three = inside (first + 2 * (64 / b)) (64 / b) (omega arith) (omega arith);
-      four = inside (first + 3 * (64 / b)) (64 / b) (omega arith) (omega arith);
-    }
-
+-- the four words
 pub list-block : {b : ℕ} (at : ℕ → ℕ → ℕ) {xs : List ℕ} (first : ℕ) → IsWidth b → b ≤ 64 → HasWindow b xs (elements_window b first (256 / b))
-    → (list_in b at xs (elements_window b first (64 / b)) ++ list_in b at xs (elements_window b (first + 64 / b) (64 / b)))
+    → (list_in b at xs (elements_window b first (64 / b)) ++ list_in b at xs (elements_window b (first + 1 * (64 / b)) (64 / b)))
     ++ (list_in b at xs (elements_window b (first + 2 * (64 / b)) (64 / b)) ++ list_in b at xs (elements_window b (first + 3 * (64 / b)) (64 / b)))
     ≡ list_in b at xs (elements_window b first (256 / b))
 list-block {b} at {xs} first width narrow has =
@@ -194,7 +179,7 @@ list-block {b} at {xs} first width narrow has =
     let all = block_words b width narrow in
     let join = list-elements_join b at xs first (256 / b) has in
     let high : ℕ = first + 2 * e in
-    rw (join first (first + e) e e (2 * e) (omega arith) (omega arith) refl (omega arith), join high (first + 3 * e) e e (2 * e) (omega arith) (omega arith) (omega arith) (omega arith))
+    rw (join first (first + 1 * e) e e (2 * e) (omega arith) (omega arith) (omega arith) (omega arith), join high (first + 3 * e) e e (2 * e) (omega arith) (omega arith) (omega arith) (omega arith))
     (join first high (2 * e) (2 * e) (256 / b) (omega arith) (omega arith) refl (omega arith))
 
 -- ---- the elements that a window touches, where it is empty or begins at one

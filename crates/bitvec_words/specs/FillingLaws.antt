@@ -29,10 +29,10 @@ Writes-none_filled {b} {at} {xs} first count bit has =
     (Writes-empty {b = b} at {xs = xs} xs {window = elements_window b first 0} (record { fits = has.fits; within = record { start = has.within.start; len = omega arith } }) none refl)
     (replicate-is bit (sym none))
 
-pub Writes-filled : {b : ℕ} {at : ℕ → ℕ → ℕ} → Permutes b (at b) → (old mid : List ℕ) (first count step : ℕ) (bit : Bool) → 0 < b → HasWindow b old (elements_window b first count) → step < count
+pub Writes-filled : {b : ℕ} {at : ℕ → ℕ → ℕ} → Permutes b (at b) → {old mid : List ℕ} (first : ℕ) {count step : ℕ} (bit : Bool) → 0 < b → HasWindow b old (elements_window b first count) → step < count
     → Writes b at old mid (elements_window b first step) (replicate (step * b) bit)
     → Writes b at old (slice_set mid (first + step) (if bit then 2 ^ b - 1 else 0)) (elements_window b first (step + 1)) (replicate ((step + 1) * b) bit)
-Writes-filled {b} {at} p old mid first count step bit some has more before =
+Writes-filled {b} {at} p {old} {mid} first {count} {step} bit some has more before =
     Writes-is
     (Writes-element first count step (if bit then 2 ^ b - 1 else 0) some has more before)
     (ap (λ (l : List Bool). replicate (step * b) bit ++ l) (element-filled b at p bit)
@@ -47,10 +47,10 @@ Writes-none_flipped {b} {at} {xs} first count has =
     (Writes-empty at xs here none refl)
     (ap (map not) (sym nothing))
 
-pub Writes-flipped : {b : ℕ} {at : ℕ → ℕ → ℕ} → Permutes b (at b) → (old mid : List ℕ) (first count step v : ℕ) → 0 < b → HasWindow b old (elements_window b first count) → step < count → v ≡ slice_index mid (first + step) → v < 2 ^ b
+pub Writes-flipped : {b : ℕ} {at : ℕ → ℕ → ℕ} → Permutes b (at b) → {old mid : List ℕ} (first : ℕ) {count step v : ℕ} → 0 < b → HasWindow b old (elements_window b first count) → step < count → v ≡ slice_index mid (first + step) → v < 2 ^ b
     → Writes b at old mid (elements_window b first step) (map not (list_in b at old (elements_window b first step)))
     → Writes b at old (slice_set mid (first + step) (2 ^ b - 1 - v)) (elements_window b first (step + 1)) (map not (list_in b at old (elements_window b first (step + 1))))
-Writes-flipped {b} {at} p old mid first count step v some has more is small before =
+Writes-flipped {b} {at} p {old} {mid} first {count} {step} {v} some has more is small before =
     let front = list_in b at old (elements_window b first step) in
     let here = element_bits b at (slice_index old (first + step)) in
     Writes-is

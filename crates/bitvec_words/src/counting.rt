@@ -5,6 +5,7 @@ ghost use Rattle.bitvec_cells.specs.Access.{OnlyReads};
 ghost use Rattle.bitvec_cells.specs.Cost.{touched_count};
 ghost use Rattle.bitvec_words.specs.Elements.{elements_window};
 
+use crate::pieces::{behind_pieces, left_behind, pieces_of};
 use crate::split::{split_head, split_tail};
 use crate::word_parts::WORD_BITS;
 use bitvec_base::{BitOrder, Window};
@@ -13,6 +14,9 @@ use bitvec_store::BitStore;
 
 /// The words of a block.
 const BLOCK_WORDS: usize = 4;
+
+/// The bits of a block.
+const BLOCK_BITS: usize = BLOCK_WORDS * WORD_BITS;
 
 /// How many bits of a window are 1. Condition: the memory has at most `MAX_BITS` bits, and the window lies in it.
 /// It loads each element that the window touches once.
@@ -24,8 +28,7 @@ pub fn count<O: BitOrder, C: CellsRead>(cells: &mut C, window: Window) -> usize
     if window.len == 0 {
         return 0;
     }
-    let bits = C::Elem::BITS as usize;
-    if window.len > bits && window.start % bits == 0 {
+    if window.len > C::Elem::BITS as usize && window.phase::<C::Elem>() == 0 {
         return count_aligned::<O, C>(cells, window);
     }
     let (head, rest) = split_head::<C::Elem>(window);
@@ -59,21 +62,33 @@ fn count_whole<O: BitOrder, C: CellsRead>(cells: &mut C, first: usize, count: us
         ≡ count_by (λ bit. bit) (list_in C.Elem.BITS O.at (C.numbers cells.old) (elements_window C.Elem.BITS first count)) }
     ensures reads { OnlyReads C.CellsRead cells.old cells.new count }
 {
-    let bits = C::Elem::BITS as usize;
-    if bits >= WORD_BITS {
+    if C::Elem::BITS >= u64::BITS {
         return count_elements::<O, C>(cells, first, count);
     }
-    let elements = WORD_BITS / bits;
-    let words = count / elements;
-    let block = BLOCK_WORDS * elements;
+    let blocks = pieces_of::<C::Elem>(BLOCK_BITS, count);
     let mut ones = 0;
-    for step in 0..words / BLOCK_WORDS {
-        ones += count_words::<C>(cells, first + step * block, BLOCK_WORDS);
+    for step in 0..blocks {
+        let block = behind_pieces::<C::Elem>(BLOCK_BITS, first, step);
+        ones += count_words::<C>(cells, block, BLOCK_WORDS);
     }
-    let left = words / BLOCK_WORDS * block;
-    ones += count_words::<C>(cells, first + left, words % BLOCK_WORDS);
-    let passed = words * elements;
-    ones + count_elements::<O, C>(cells, first + passed, count - passed)
+    let (next, left) = left_behind::<C::Elem>(BLOCK_BITS, first, count);
+    ones + count_rest::<O, C>(cells, next, left)
+}
+
+/// How many bits of `count` whole elements are 1, by the word and then one element at a time. Condition: the elements are
+/// narrower than a word. It loads each element once.
+#[inline(always)]
+fn count_rest<O: BitOrder, C: CellsRead>(cells: &mut C, first: usize, count: usize) -> usize
+    requires window { HasWindow C.Elem.BITS (C.numbers cells.old) (elements_window C.Elem.BITS first count) }
+    requires narrow { C.Elem.BITS ≤ 64 }
+    ensures value { result
+        ≡ count_by (λ bit. bit) (list_in C.Elem.BITS O.at (C.numbers cells.old) (elements_window C.Elem.BITS first count)) }
+    ensures reads { OnlyReads C.CellsRead cells.old cells.new count }
+{
+    let words = pieces_of::<C::Elem>(WORD_BITS, count);
+    let ones = count_words::<C>(cells, first, words);
+    let (next, left) = left_behind::<C::Elem>(WORD_BITS, first, count);
+    ones + count_elements::<O, C>(cells, next, left)
 }
 
 /// How many bits of the elements of `count` words are 1. The compiler unrolls the loop where they are a block.
@@ -86,10 +101,10 @@ fn count_words<C: CellsRead>(cells: &mut C, first: usize, count: usize) -> usize
         ≡ count_by (λ bit. bit) (list_in C.Elem.BITS (λ b i. i) (C.numbers cells.old) (elements_window C.Elem.BITS first (count * (64 / C.Elem.BITS)))) }
     ensures reads { OnlyReads C.CellsRead cells.old cells.new (count * (64 / C.Elem.BITS)) }
 {
-    let elements = WORD_BITS / C::Elem::BITS as usize;
     let mut ones = 0;
     for step in 0..count {
-        ones += cells.load_word(first + step * elements).count_ones() as usize;
+        let word = behind_pieces::<C::Elem>(WORD_BITS, first, step);
+        ones += cells.load_word(word).count_ones() as usize;
     }
     ones
 }

@@ -24,9 +24,8 @@ pub fn words_load_front<O: WordOrder, C: CellsRead>(cells: &mut C, window: Windo
     ensures value { IsFront C.Elem.BITS O.at (C.numbers cells.old) window result.0 result.1 }
     ensures reads { OnlyReads C.CellsRead cells.old cells.new (touched_count C.Elem.BITS window.start result.1) }
 {
-    let bits = C::Elem::BITS as usize;
-    if bits <= WORD_BITS && window.len >= WORD_BITS && window.start % bits == 0 {
-        let word = load_elements::<O, C>(cells, window.start / bits);
+    if C::Elem::BITS <= u64::BITS && window.len >= WORD_BITS && window.phase::<C::Elem>() == 0 {
+        let word = load_elements::<O, C>(cells, window.element::<C::Elem>());
         return (word, WORD_BITS);
     }
     let (part, _) = split_head::<C::Elem>(front_window(window));

@@ -11,6 +11,7 @@ mod known_skip;
 mod lanes;
 mod operator;
 mod part;
+mod pieces;
 mod scanning;
 mod scanning_words;
 mod split;

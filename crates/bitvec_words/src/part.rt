@@ -8,7 +8,7 @@ ghost use Rattle.bitvec_words.specs.ShortWindow.{HasShortWindow};
 
 use crate::WordOrder;
 use crate::element::{joined, merged, toward_end, toward_start};
-use bitvec_base::{BitOrder, Part, Window, first_part};
+use bitvec_base::{BitOrder, Part, Window};
 use bitvec_cells::{Cells, CellsRead};
 use bitvec_store::BitStore;
 
@@ -40,7 +40,7 @@ pub fn load_element<O: WordOrder, C: CellsRead>(cells: &mut C, window: Window) -
         ≡ slice_index (C.numbers cells.old) ((window.start + window.len - 1) / C.Elem.BITS) }
     ensures reads { OnlyReads C.CellsRead cells.old cells.new (touched_count C.Elem.BITS window.start window.len) }
 {
-    let first = cells.load(window.start / C::Elem::BITS as usize);
+    let first = cells.load(window.element::<C::Elem>());
     load_element_after::<O, C>(cells, window, first)
 }
 
@@ -58,12 +58,11 @@ pub fn load_element_after<O: WordOrder, C: CellsRead>(
         ≡ slice_index (C.numbers cells.old) ((window.start + window.len - 1) / C.Elem.BITS) }
     ensures reads { OnlyReads C.CellsRead cells.old cells.new (touched_count C.Elem.BITS window.start window.len - 1) }
 {
-    let bits = C::Elem::BITS as usize;
-    let skip = window.start % bits;
-    if window.len <= bits - skip {
+    let skip = window.phase::<C::Elem>();
+    if window.len <= C::Elem::BITS as usize - skip {
         return (toward_start::<O, C::Elem>(first, skip), first);
     }
-    let second = cells.load(window.start / bits + 1);
+    let second = cells.load(window.element::<C::Elem>() + 1);
     (joined::<O, C::Elem>(first, second, skip), second)
 }
 
@@ -97,7 +96,7 @@ pub fn store_short<O: WordOrder, C: Cells>(cells: &mut C, window: Window, elemen
     if window.len == 0 {
         return;
     }
-    let head = first_part(C::Elem::BITS as usize, window);
+    let head = window.first_part::<C::Elem>();
     store_part::<O, C>(cells, head, toward_end::<O, C::Elem>(element, head.from));
     let count = head.len();
     if count < window.len {

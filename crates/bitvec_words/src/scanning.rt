@@ -6,7 +6,8 @@ ghost use Rattle.bitvec_cells.specs.Access.{OnlyReadsAtMost};
 ghost use Rattle.bitvec_cells.specs.Cost.{first_loads, last_loads};
 ghost use Rattle.bitvec_words.specs.Elements.{elements_window};
 
-use crate::split::{split_head, split_tail};
+use crate::pieces::bit_behind;
+use crate::split::{elements_from_edge, split_head, split_tail};
 use bitvec_base::{BitOrder, Part, Window};
 use bitvec_cells::{
     CellsRead, filled, first_in_element, first_in_part, last_in_element, last_in_part,
@@ -28,7 +29,7 @@ pub fn bits_scan_first<O: BitOrder, C: CellsRead>(
     ensures value { result ≡ first_place want (list_in C.Elem.BITS O.at (C.numbers cells.old) window) }
     ensures reads { OnlyReadsAtMost C.CellsRead cells.old cells.new (first_loads C.Elem.BITS window result) }
 {
-    if window.len == 0 || window.start % C::Elem::BITS as usize == 0 {
+    if window.len == 0 || window.phase::<C::Elem>() == 0 {
         return first_aligned::<O, C>(cells, window, want);
     }
     let (head, rest) = split_head::<C::Elem>(window);
@@ -51,9 +52,8 @@ fn first_aligned<O: BitOrder, C: CellsRead>(
     ensures value { result ≡ first_place want (list_in C.Elem.BITS O.at (C.numbers cells.old) window) }
     ensures reads { OnlyReadsAtMost C.CellsRead cells.old cells.new (first_loads C.Elem.BITS window result) }
 {
-    let bits = C::Elem::BITS as usize;
-    let count = window.len.div_ceil(bits);
-    let found = first_whole::<O, C>(cells, window.start / bits, count, want)?;
+    let (first, count) = elements_from_edge::<C::Elem>(window);
+    let found = first_whole::<O, C>(cells, first, count, want)?;
     (found < window.len).then_some(found)
 }
 
@@ -75,7 +75,7 @@ pub(crate) fn first_whole<O: BitOrder, C: CellsRead>(
         let element = cells.load(first + step);
         if element.xor(lacking).to_u128() != 0 {
             let found = first_in_whole::<O, C::Elem>(element, want)?;
-            return Some(step * C::Elem::BITS as usize + found);
+            return Some(bit_behind::<C::Elem>(step, found));
         }
     }
     None
@@ -134,7 +134,7 @@ fn last_aligned<O: BitOrder, C: CellsRead>(
         return last_whole::<O, C>(cells, first, count, want);
     }
     if let Some(found) = last_in_part::<O, C>(cells, tail, want) {
-        return Some(count * C::Elem::BITS as usize + found);
+        return Some(bit_behind::<C::Elem>(count, found));
     }
     last_whole::<O, C>(cells, first, count, want)
 }
@@ -156,7 +156,7 @@ fn last_whole<O: BitOrder, C: CellsRead>(
     for step in (0..count / TURN).rev() {
         let passed = left + step * TURN;
         if let Some(found) = last_of_turn::<O, C>(cells, first + passed, TURN, want) {
-            return Some(passed * C::Elem::BITS as usize + found);
+            return Some(bit_behind::<C::Elem>(passed, found));
         }
     }
     last_of_turn::<O, C>(cells, first, left, want)
@@ -177,19 +177,26 @@ fn last_of_turn<O: BitOrder, C: CellsRead>(
     ensures reads { OnlyReadsAtMost C.CellsRead cells.old cells.new
         (last_loads C.Elem.BITS (elements_window C.Elem.BITS first count) result) }
 {
-    let bits = C::Elem::BITS as usize;
-    let whole = Part {
-        element: 0,
-        from: 0,
-        to: bits,
-    };
     let lacking = filled::<C::Elem>(!want);
     for step in (0..count).rev() {
         let element = cells.load(first + step);
         if element.xor(lacking).to_u128() != 0 {
-            let found = last_in_element::<O, C::Elem>(element, whole, want)?;
-            return Some(step * bits + found);
+            let found = last_in_whole::<O, C::Elem>(element, want)?;
+            return Some(bit_behind::<C::Elem>(step, found));
         }
     }
     None
+}
+
+/// The last of an element.
+#[inline(always)]
+fn last_in_whole<O: BitOrder, T: BitStore>(element: T, want: bool) -> Option<usize>
+    ensures { result ≡ last_place want (element_bits T.BITS O.at (T.value element)) }
+{
+    let whole = Part {
+        element: 0,
+        from: 0,
+        to: T::BITS as usize,
+    };
+    last_in_element::<O, T>(element, whole, want)
 }

@@ -6,12 +6,13 @@ ghost use Rattle.bitvec_cells.specs.Access.{OnlyReads, OnlyReadsAtMost};
 ghost use Rattle.bitvec_cells.specs.Cost.{touched_count};
 ghost use Rattle.bitvec_words.specs.Elements.{elements_window};
 
+use crate::pieces::{behind_pieces, left_behind, pieces_of, place_behind};
 use crate::scanning::{first_in_whole, first_whole};
-use crate::split::split_head;
-use crate::word_elements::{load_elements, ordered};
+use crate::split::{elements_from_edge, split_head};
+use crate::word_elements::{load_elements, load_word_behind, ordered};
 use crate::word_order::WordOrder;
 use crate::word_parts::WORD_BITS;
-use bitvec_base::{BitOrder, Lsb0, Window};
+use bitvec_base::{BitOrder, Lsb0, Window, elements_of};
 use bitvec_cells::{CellsRead, filled, first_in_part};
 use bitvec_store::BitStore;
 
@@ -34,7 +35,7 @@ pub fn words_scan_first<O: WordOrder, C: CellsRead>(
     ensures value { result ≡ first_place want (list_in C.Elem.BITS O.at (C.numbers cells.old) window) }
     ensures reads { OnlyReadsAtMost C.CellsRead cells.old cells.new (touched_count C.Elem.BITS window.start window.len) }
 {
-    if window.len == 0 || window.start % C::Elem::BITS as usize == 0 {
+    if window.len == 0 || window.phase::<C::Elem>() == 0 {
         return first_from_edge::<O, C>(cells, window, want);
     }
     let (head, rest) = split_head::<C::Elem>(window);
@@ -58,14 +59,13 @@ fn first_from_edge<O: WordOrder, C: CellsRead>(
     ensures value { result ≡ first_place want (list_in C.Elem.BITS O.at (C.numbers cells.old) window) }
     ensures reads { OnlyReadsAtMost C.CellsRead cells.old cells.new (touched_count C.Elem.BITS window.start window.len) }
 {
-    let bits = C::Elem::BITS as usize;
-    let count = window.len.div_ceil(bits);
-    let found = first_in_elements::<O, C>(cells, window.start / bits, count, want)?;
+    let (first, count) = elements_from_edge::<C::Elem>(window);
+    let found = first_in_elements::<O, C>(cells, first, count, want)?;
     (found < window.len).then_some(found)
 }
 
-/// The first of `count` elements: of turns of four blocks, and then of fewer elements. A jump back costs as much as the
-/// comparison of a block.
+/// The first of `count` elements: of turns of four blocks, and then of fewer elements, where they make a block. A jump
+/// back costs as much as the comparison of a block.
 #[inline(always)]
 fn first_in_elements<O: WordOrder, C: CellsRead>(
     cells: &mut C,
@@ -78,16 +78,19 @@ fn first_in_elements<O: WordOrder, C: CellsRead>(
         ≡ first_place want (list_in C.Elem.BITS O.at (C.numbers cells.old) (elements_window C.Elem.BITS first count)) }
     ensures reads { OnlyReadsAtMost C.CellsRead cells.old cells.new count }
 {
-    let elements = TURN_BITS / C::Elem::BITS as usize;
-    let turns = count / elements;
+    if count < elements_of::<C::Elem>(BLOCK_BITS) {
+        return first_in_rest::<O, C>(cells, first, count, want);
+    }
+    let turns = pieces_of::<C::Elem>(TURN_BITS, count);
     for step in 0..turns {
-        if let Some(found) = first_in_blocks::<O, C>(cells, first + step * elements, 4, want) {
-            return Some(step * TURN_BITS + found);
+        let turn = behind_pieces::<C::Elem>(TURN_BITS, first, step);
+        if let Some(found) = first_in_blocks::<O, C>(cells, turn, 4, want) {
+            return Some(place_behind(TURN_BITS, step, found));
         }
     }
-    let passed = turns * elements;
-    let found = first_in_fewer::<O, C>(cells, first + passed, count - passed, want)?;
-    Some(turns * TURN_BITS + found)
+    let (next, left) = left_behind::<C::Elem>(TURN_BITS, first, count);
+    let found = first_in_fewer::<O, C>(cells, next, left, want)?;
+    Some(place_behind(TURN_BITS, turns, found))
 }
 
 /// The first of `count` elements: of blocks, and then of fewer elements.
@@ -103,14 +106,13 @@ fn first_in_fewer<O: WordOrder, C: CellsRead>(
         ≡ first_place want (list_in C.Elem.BITS O.at (C.numbers cells.old) (elements_window C.Elem.BITS first count)) }
     ensures reads { OnlyReadsAtMost C.CellsRead cells.old cells.new count }
 {
-    let elements = BLOCK_BITS / C::Elem::BITS as usize;
-    let blocks = count / elements;
+    let blocks = pieces_of::<C::Elem>(BLOCK_BITS, count);
     if let Some(found) = first_in_blocks::<O, C>(cells, first, blocks, want) {
         return Some(found);
     }
-    let passed = blocks * elements;
-    let found = first_in_rest::<O, C>(cells, first + passed, count - passed, want)?;
-    Some(blocks * BLOCK_BITS + found)
+    let (next, left) = left_behind::<C::Elem>(BLOCK_BITS, first, count);
+    let found = first_in_rest::<O, C>(cells, next, left, want)?;
+    Some(place_behind(BLOCK_BITS, blocks, found))
 }
 
 /// The first of the elements of `count` blocks. The compiler unrolls the loop where they are those of a turn.
@@ -126,10 +128,10 @@ fn first_in_blocks<O: WordOrder, C: CellsRead>(
         ≡ first_place want (list_in C.Elem.BITS O.at (C.numbers cells.old) (elements_window C.Elem.BITS first (count * (256 / C.Elem.BITS)))) }
     ensures reads { OnlyReadsAtMost C.CellsRead cells.old cells.new (count * (256 / C.Elem.BITS)) }
 {
-    let elements = BLOCK_BITS / C::Elem::BITS as usize;
     for step in 0..count {
-        if let Some(found) = first_in_block::<O, C>(cells, first + step * elements, want) {
-            return Some(step * BLOCK_BITS + found);
+        let block = behind_pieces::<C::Elem>(BLOCK_BITS, first, step);
+        if let Some(found) = first_in_block::<O, C>(cells, block, want) {
+            return Some(place_behind(BLOCK_BITS, step, found));
         }
     }
     None
@@ -148,21 +150,19 @@ fn first_in_rest<O: WordOrder, C: CellsRead>(
         ≡ first_place want (list_in C.Elem.BITS O.at (C.numbers cells.old) (elements_window C.Elem.BITS first count)) }
     ensures reads { OnlyReadsAtMost C.CellsRead cells.old cells.new count }
 {
-    let bits = C::Elem::BITS as usize;
-    if bits >= WORD_BITS {
+    if C::Elem::BITS >= u64::BITS {
         return first_whole::<O, C>(cells, first, count, want);
     }
-    let elements = WORD_BITS / bits;
-    let words = count / elements;
+    let words = pieces_of::<C::Elem>(WORD_BITS, count);
     for step in 0..words {
-        let word = load_elements::<O, C>(cells, first + step * elements);
+        let word = load_word_behind::<O, C>(cells, first, step);
         if let Some(found) = first_in_whole::<O, u64>(word, want) {
-            return Some(step * WORD_BITS + found);
+            return Some(place_behind(WORD_BITS, step, found));
         }
     }
-    let passed = words * elements;
-    let found = first_whole::<O, C>(cells, first + passed, count - passed, want)?;
-    Some(words * WORD_BITS + found)
+    let (next, left) = left_behind::<C::Elem>(WORD_BITS, first, count);
+    let found = first_whole::<O, C>(cells, next, left, want)?;
+    Some(place_behind(WORD_BITS, words, found))
 }
 
 /// The first of the elements of a block. If they are wider than a word they are two. Else the machine loads them as
@@ -178,17 +178,15 @@ fn first_in_block<O: WordOrder, C: CellsRead>(
         (list_in C.Elem.BITS O.at (C.numbers cells.old) (elements_window C.Elem.BITS first (256 / C.Elem.BITS))) }
     ensures reads { OnlyReads C.CellsRead cells.old cells.new (256 / C.Elem.BITS) }
 {
-    let bits = C::Elem::BITS as usize;
-    if bits > WORD_BITS {
+    if C::Elem::BITS > u64::BITS {
         let one = cells.load(first);
         let two = cells.load(first + 1);
         return first_in_pair::<O, C::Elem>(one, two, want);
     }
-    let elements = WORD_BITS / bits;
     let one = load_elements::<Lsb0, C>(cells, first);
-    let two = load_elements::<Lsb0, C>(cells, first + elements);
-    let three = load_elements::<Lsb0, C>(cells, first + 2 * elements);
-    let four = load_elements::<Lsb0, C>(cells, first + 3 * elements);
+    let two = load_word_behind::<Lsb0, C>(cells, first, 1);
+    let three = load_word_behind::<Lsb0, C>(cells, first, 2);
+    let four = load_word_behind::<Lsb0, C>(cells, first, 3);
     let lacking = filled::<u64>(!want);
     if (one ^ lacking) | (two ^ lacking) | (three ^ lacking) | (four ^ lacking) == 0 {
         return None;

@@ -1,12 +1,13 @@
 //! A window in two, split where an element begins.
-ghost use Rattle.std.specs.Prelude.{◌≡◌, ◌≢◌, ◌+◌, ◌-◌, ◌%◌, ◌^◌, ◌<◌};
+ghost use Rattle.std.specs.Prelude.{◌≡◌, ◌≢◌, ◌+◌, ◌-◌, ◌/◌, ◌%◌, ◌^◌, ◌<◌};
+ghost use Rattle.std.specs.Int.{div_ceil};
 ghost use Rattle.bitvec_base.specs.Parts.{first_part_of, part_window};
 ghost use Rattle.bitvec_base.specs.Window.{window_after};
 ghost use Rattle.bitvec_cells.specs.Cost.{touched_count};
 ghost use Rattle.bitvec_words.specs.Elements.{elements_window};
 ghost use Rattle.bitvec_words.specs.Split.{IsPart, Split};
 
-use bitvec_base::{Part, Window, first_part, tail_part, whole_elements};
+use bitvec_base::{Part, Window};
 use bitvec_store::BitStore;
 
 /// The part of a window's first element, and the window behind it. Condition: the window isn't empty, and its end
@@ -22,7 +23,7 @@ pub(crate) fn split_head<T: BitStore>(window: Window) -> (Part, Window)
     ensures is_first { result.0 ≡ first_part_of T.BITS window }
     ensures is_behind { result.1 ≡ window_after (result.0.to - result.0.from) window }
 {
-    let head = first_part(T::BITS as usize, window);
+    let head = window.first_part::<T>();
     (head, window.after(head.len()))
 }
 
@@ -37,7 +38,14 @@ pub(crate) fn split_tail<T: BitStore>(window: Window) -> (usize, usize, Part)
     ensures whole { result.2.to ≡ 0 → touched_count T.BITS window.start window.len ≡ result.1 }
     ensures more { result.2.to ≢ 0 → touched_count T.BITS window.start window.len ≡ result.1 + 1 }
 {
-    let bits = T::BITS as usize;
-    let (first, count) = whole_elements(bits, window);
-    (first, count, tail_part(bits, window))
+    let (first, count) = window.whole_elements::<T>();
+    (first, count, window.tail_part::<T>())
+}
+
+/// The elements that a window touches which is empty or begins where one does, as the first and how many they are.
+#[inline(always)]
+pub(crate) fn elements_from_edge<T: BitStore>(window: Window) -> (usize, usize)
+    ensures { result ≡ (window.start / T.BITS, div_ceil window.len T.BITS) }
+{
+    (window.element::<T>(), window.len.div_ceil(T::BITS as usize))
 }

@@ -1,12 +1,13 @@
 //! The elements of a word of 64 bits.
-ghost use Rattle.std.specs.Prelude.{◌≡◌, ◌/◌, ◌≤◌};
+ghost use Rattle.std.specs.Prelude.{◌≡◌, ◌+◌, ◌*◌, ◌/◌, ◌≤◌};
 ghost use Rattle.bitvec_base.specs.Memory.{HasWindow, Writes, element_bits, list_in};
 ghost use Rattle.bitvec_cells.specs.Access.{Costs, OnlyReads};
 ghost use Rattle.bitvec_words.specs.Elements.{SameElements, elements_window};
 
+use crate::pieces::behind_pieces;
 use crate::word_order::WordOrder;
 use crate::word_parts::{WORD_BITS, moved};
-use bitvec_base::Lsb0;
+use bitvec_base::{Lsb0, elements_of};
 use bitvec_cells::{Cells, CellsRead};
 use bitvec_store::BitStore;
 
@@ -21,6 +22,22 @@ pub fn load_elements<O: WordOrder, C: CellsRead>(cells: &mut C, first: usize) ->
     ensures reads { OnlyReads C.CellsRead cells.old cells.new (64 / C.Elem.BITS) }
 {
     ordered::<O, C::Elem>(cells.load_word(first))
+}
+
+/// [`load_elements`] of the word behind `count` words from the element `first` on.
+#[inline(always)]
+pub(crate) fn load_word_behind<O: WordOrder, C: CellsRead>(
+    cells: &mut C,
+    first: usize,
+    count: usize,
+) -> u64
+    requires window { HasWindow C.Elem.BITS (C.numbers cells.old) (elements_window C.Elem.BITS (first + count * (64 / C.Elem.BITS)) (64 / C.Elem.BITS)) }
+    requires narrow { C.Elem.BITS ≤ 64 }
+    ensures value { element_bits 64 O.at result
+        ≡ list_in C.Elem.BITS O.at (C.numbers cells.old) (elements_window C.Elem.BITS (first + count * (64 / C.Elem.BITS)) (64 / C.Elem.BITS)) }
+    ensures reads { OnlyReads C.CellsRead cells.old cells.new (64 / C.Elem.BITS) }
+{
+    load_elements::<O, C>(cells, behind_pieces::<C::Elem>(WORD_BITS, first, count))
 }
 
 /// Stores the elements of one word from the element `first` on. Condition: as for [`load_elements`].
@@ -44,7 +61,7 @@ pub(crate) fn ordered<O: WordOrder, T: BitStore>(word: u64) -> u64
 {
     let bits = T::BITS as usize;
     let mut ordered = 0;
-    for step in 0..WORD_BITS / bits {
+    for step in 0..elements_of::<T>(WORD_BITS) {
         let element = moved::<Lsb0, u64, T>(word, step * bits, bits, 0);
         ordered |= moved::<O, T, u64>(element, 0, bits, step * bits);
     }

@@ -22,7 +22,7 @@ overflow_add-ones g c =
     let more = c.loop-step-test.true in
     let value = rw inv.reads.numbers at c.load.ensures.value in
     let order = mul-le-mul_left b more in
-    let ones = count-element b g.O.BitOrder.at (g.met.O.BitOrder.permutes _ width) _ _ _ _ _ _ _ (width_some _ width) c.requires more value c.load.ensures.in_range inv.ones c.count_ones.ensures in
+    let ones = count-element b g.O.BitOrder.at (g.met.O.BitOrder.permutes _ width) _ (width_some _ width) c.requires more value c.load.ensures.in_range inv.ones c.count_ones.ensures in
     let most = count-within g.O.BitOrder.at
     (HasWindow-part (elements_window b c.args.first (c.loop-step.step + 1)) c.requires (omega arith) (omega arith))
     ones in
@@ -35,7 +35,7 @@ loop-step-preserved g c =
     let width = g.met.C.Elem.BitStore.width_law in
     let value = rw inv.reads.numbers at c.load.ensures.value in
     record {
-      ones = count-element b g.O.BitOrder.at (g.met.O.BitOrder.permutes _ width) _ _ _ _ _ _ _ (width_some _ width) c.requires c.loop-step-test.true value c.load.ensures.in_range inv.ones c.count_ones.ensures;
+      ones = count-element b g.O.BitOrder.at (g.met.O.BitOrder.permutes _ width) _ (width_some _ width) c.requires c.loop-step-test.true value c.load.ensures.in_range inv.ones c.count_ones.ensures;
       reads = search rules;
     }
 

@@ -8,6 +8,6 @@ abbrev pub invariant-loop-step : goal.invariant-loop-step
 invariant-loop-step g l =
     let b = g.C.Elem.BitStore.BITS in
     record {
-      ones : l.ones ≡ count_by (λ bit. bit) (list_in b (λ b i. i) (g.C.CellsRead.numbers l.fn.cells) (elements_window b l.first (l.step * (4 * (64 / b)))));
-      reads : OnlyReads g.C.CellsRead l.fn.cells l.cells (l.step * (4 * (64 / b)));
+      ones : l.ones ≡ count_by (λ bit. bit) (list_in b (λ b i. i) (g.C.CellsRead.numbers l.fn.cells) (elements_window b l.first (l.step * (256 / b))));
+      reads : OnlyReads g.C.CellsRead l.fn.cells l.cells (l.step * (256 / b));
     }

@@ -13,35 +13,20 @@ loop-step-init g c = record {
 
 pub load_word-requires : goal.load_word-requires
 load_word-requires g c =
-    let here = word-block _ c.args.first c.args.count c.loop-step.step g.met.C.Elem.BitStore.width_law c.requires.window c.loop-step-test.true in
-    rw (c.loop-step.invariant.reads.numbers, c.BITS.ensures) (elements-inside _ _ (width_some _ g.met.C.Elem.BitStore.width_law) here.here)
+    let width = g.met.C.Elem.BitStore.width_law in
+    rw (c.loop-step.invariant.reads.numbers, c.behind_pieces-word.ensures) (elements-inside _ _ (width_some _ width) (word-block _ c.args.first c.args.count c.loop-step.step width c.requires.window c.loop-step-test.true).here)
 
 pub overflow_add-ones : goal.overflow_add-ones
 overflow_add-ones g c =
+    let width = g.met.C.Elem.BitStore.width_law in
     let inv = c.loop-step.invariant in
-    let here = word-block _ c.args.first c.args.count c.loop-step.step g.met.C.Elem.BitStore.width_law c.requires.window c.loop-step-test.true in
-    let few = count-block_few here _ _ inv.ones (word-ones c.load_word.result _ (word-listed _ g.met.C.Elem.BitStore.width_law c.requires.narrow _ _ _ here.here (rw (c.BITS.ensures, inv.reads.numbers) at c.load_word.ensures.digits)) (omega arith)) in
+    let here = word-block _ c.args.first c.args.count c.loop-step.step width c.requires.window c.loop-step-test.true in
+    let few = count-block_few here inv.ones (word-ones c.load_word.result (word-listed _ width c.requires.narrow _ _ _ here.here (rw (c.behind_pieces-word.ensures, inv.reads.numbers) at c.load_word.ensures.digits)) (omega arith)) in
     omega arith
 
 pub loop-step-preserved : goal.loop-step-preserved
 loop-step-preserved g c =
+    let width = g.met.C.Elem.BitStore.width_law in
     let inv = c.loop-step.invariant in
-    let here = word-block _ c.args.first c.args.count c.loop-step.step g.met.C.Elem.BitStore.width_law c.requires.window c.loop-step-test.true in
-    record { ones = count-block here _ _ inv.ones (word-ones c.load_word.result _ (word-listed _ g.met.C.Elem.BitStore.width_law c.requires.narrow _ _ _ here.here (rw (c.BITS.ensures, inv.reads.numbers) at c.load_word.ensures.digits)) (omega arith)); reads = search rules }
-
-pub overflow_mul-step : goal.overflow_mul-step
-overflow_mul-step g c =
-    let here = word-block _ c.args.first c.args.count c.loop-step.step g.met.C.Elem.BitStore.width_law c.requires.window c.loop-step-test.true in
-    let few = here.upto.few in
-    let within = here.upto.within in
-    record { fits = rw c.BITS.ensures (omega arith) }
-
-pub overflow_add-first : goal.overflow_add-first
-overflow_add-first g c =
-    let here = word-block _ c.args.first c.args.count c.loop-step.step g.met.C.Elem.BitStore.width_law c.requires.window c.loop-step-test.true in
-    let few = here.upto.few in
-    let within = here.upto.within in
-    record { fits = rw c.BITS.ensures (omega arith) }
-
-pub nonzero_div-elements : goal.nonzero_div-elements
-nonzero_div-elements g c = rw c.BITS.ensures (omega (arith, width_some _ g.met.C.Elem.BitStore.width_law))
+    let here = word-block _ c.args.first c.args.count c.loop-step.step width c.requires.window c.loop-step-test.true in
+    record { ones = count-block here inv.ones (word-ones c.load_word.result (word-listed _ width c.requires.narrow _ _ _ here.here (rw (c.behind_pieces-word.ensures, inv.reads.numbers) at c.load_word.ensures.digits)) (omega arith)); reads = search rules }

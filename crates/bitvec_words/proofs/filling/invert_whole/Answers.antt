@@ -17,7 +17,7 @@ loop-step-preserved g c =
     let width = g.met.C.Elem.BitStore.width_law in
     record {
       writes = rw (c.store.ensures.numbers, c.not.ensures, c.load-element.ensures.numbers)
-          (Writes-flipped (g.met.O.BitOrder.permutes _ width) _ _ _ _ _ _ (width_some _ width) c.requires c.loop-step-test.true c.load-element.ensures.value c.load-element.ensures.in_range inv.writes);
+          (Writes-flipped (g.met.O.BitOrder.permutes _ width) _ (width_some _ width) c.requires c.loop-step-test.true c.load-element.ensures.value c.load-element.ensures.in_range inv.writes);
       cost = search rules;
     }
 

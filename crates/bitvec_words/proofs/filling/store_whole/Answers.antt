@@ -28,7 +28,7 @@ loop-step-preserved g c =
     let width = g.met.C.Elem.BitStore.width_law in
     record {
       writes = λ bit is. rw (c.store.ensures.numbers, is)
-          (Writes-filled (g.met.O.BitOrder.permutes _ width) _ _ _ _ _ bit (width_some _ width) c.requires c.loop-step-test.true (inv.writes bit is));
+          (Writes-filled (g.met.O.BitOrder.permutes _ width) _ bit (width_some _ width) c.requires c.loop-step-test.true (inv.writes bit is));
       elements = rw c.store.ensures.numbers (length-set _ _ _ ∙ inv.elements);
       cost = search rules;
     }

@@ -14,18 +14,16 @@ use Rattle.bitvec_words.proofs.fronts.words_load_front.Goals as goal
 pub load_elements-word-requires : goal.load_elements-word-requires
 load_elements-word-requires g c =
     let narrow : g.C.Elem.BitStore.BITS ≤ 64 = omega arith in
-    rw c.BITS-bits.ensures (record { window = HasWindow-word g.met.C.Elem.BitStore.width_law narrow c.if-window-ge-WORD_BITS.true (rw c.BITS-bits.ensures at c.if-window-bits-eq0.true) c.requires.window; narrow = narrow })
+    rw c.element.ensures (record { window = HasWindow-word g.met.C.Elem.BitStore.width_law narrow c.if-window-ge-WORD_BITS.true (omega arith) c.requires.window; narrow = narrow })
 
-pub returns-then-window-bits-eq0 : goal.returns-then-window-bits-eq0
-returns-then-window-bits-eq0 g c =
+pub returns-then-phase-eq0 : goal.returns-then-phase-eq0
+returns-then-phase-eq0 g c =
     let b = g.C.Elem.BitStore.BITS in
     let width = g.met.C.Elem.BitStore.width_law in
-    let narrow = rw c.BITS-bits.ensures at c.if-bits-le-WORD_BITS.true in
-    let edge = rw c.BITS-bits.ensures at c.if-window-bits-eq0.true in
-    let word = rw c.BITS-bits.ensures at c.load_elements-word.ensures in
+    let word = rw c.element.ensures at c.load_elements-word.ensures in
     record {
-      value = word-front b g.O.BitOrder.at _ c.args.window _ width narrow c.if-window-ge-WORD_BITS.true edge c.requires.window word.value;
-      reads = rw (touched-word b c.args.window.start width narrow edge) word.reads;
+      value = word-front b g.O.BitOrder.at _ c.args.window _ width (omega arith) c.if-window-ge-WORD_BITS.true (omega arith) c.requires.window word.value;
+      reads = rw (touched-word b c.args.window.start width (omega arith) (omega arith)) word.reads;
     }
 
 pub split_head-requires : goal.split_head-requires

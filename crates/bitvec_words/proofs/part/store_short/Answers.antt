@@ -1,7 +1,6 @@
 use Rattle.std.proofs.Common.{◌≡◌, ℕ, ◌-◌, ◌+◌, arith, refl, ap, sym, ◌∙◌, take}
 use Rattle.bitvec_base.specs.declared.part.Part.{Part}
 use Rattle.bitvec_base.specs.Memory.{element_bits}
-use Rattle.bitvec_base.specs.Parts.{first_part_of}
 use Rattle.bitvec_base.specs.WritesLaws.{Writes-empty, Writes-is}
 use Rattle.bitvec_store.specs.WidthLaws.{width_some}
 use Rattle.bitvec_cells.specs.WalkLaws.{first-len}
@@ -18,27 +17,27 @@ pub returns-then-count-window-clause-writes : goal.returns-then-count-window-cla
 returns-then-count-window-clause-writes g c =
     let window = c.args.window in
     let some = width_some _ g.met.C.Elem.BitStore.width_law in
-    let part : c.first_part-head.result ≡ first_part_of g.C.Elem.BitStore.BITS window = rw c.BITS.ensures at c.first_part-head.ensures in
+    let part = c.first_part-head.ensures in
     let step = c.len-count.ensures ∙ ap (λ (p : Part). p.to - p.from) part in
     let before = rw (c.toward_end.ensures, part) at c.store_part.ensures.writes in
     let after = rw (c.toward_start.ensures, part) at c.store_part-then-count-window.ensures.writes in
-    stored-two _ _ _ _ window _ _ some (omega arith) c.requires.bound step c.requires.window before _ c.if-count-window.true after
+    stored-two _ _ window _ some (omega arith) c.requires.bound step c.requires.window before c.if-count-window.true after
 
 pub returns-else-count-window-clause-writes : goal.returns-else-count-window-clause-writes
 returns-else-count-window-clause-writes g c =
     let window = c.args.window in
     let some = width_some _ g.met.C.Elem.BitStore.width_law in
-    let part : c.first_part-head.result ≡ first_part_of g.C.Elem.BitStore.BITS window = rw c.BITS.ensures at c.first_part-head.ensures in
+    let part = c.first_part-head.ensures in
     let step = c.len-count.ensures ∙ ap (λ (p : Part). p.to - p.from) part in
     let before = rw (c.toward_end.ensures, part) at c.store_part.ensures.writes in
-    stored-one _ _ _ _ window _ _ some (omega arith) c.requires.bound step c.requires.window before (omega arith)
+    stored-one _ _ window _ some (omega arith) c.requires.bound step c.requires.window before (omega arith)
 
 pub returns-then-count-window-clause-cost : goal.returns-then-count-window-clause-cost
 returns-then-count-window-clause-cost g c =
     let b = g.C.Elem.BitStore.BITS in
     let window = c.args.window in
     let some = width_some _ g.met.C.Elem.BitStore.width_law in
-    let part : c.first_part-head.result ≡ first_part_of b window = rw c.BITS.ensures at c.first_part-head.ensures in
+    let part = c.first_part-head.ensures in
     let step = c.len-count.ensures ∙ ap (λ (p : Part). p.to - p.from) part in
     let len = first-len b window some (omega arith) in
     let left = c.if-count-window.true in

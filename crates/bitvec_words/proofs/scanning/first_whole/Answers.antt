@@ -24,12 +24,12 @@ pub returns-in_err-found : goal.returns-in_err-found
 returns-in_err-found g c =
     absurd (first-must _ g.O.BitOrder.at (g.met.O.BitOrder.permutes _ g.met.C.Elem.BitStore.width_law) _ _ _ c.args.want (c.to_u128.ensures.number ∙ c.xor.ensures) c.if-to_u128-ne0.true c.load-element.ensures.in_range c.filled-lacking.ensures c.in_err-found.ensures)
 
-pub overflow_add-result : goal.overflow_add-result
-overflow_add-result g c =
+pub bit_behind-requires : goal.bit_behind-requires
+bit_behind-requires g c =
     let inv = c.loop-step.invariant in
-    let found = first-element_has _ g.O.BitOrder.at _ _ _ _ _ c.args.want (width_some _ g.met.C.Elem.BitStore.width_law) c.requires c.loop-step-test.true (rw inv.reads.numbers at c.load-element.ensures.value) inv.none _ c.in_ok-found.ensures in
+    let found = first-element_has _ g.O.BitOrder.at _ c.args.want (width_some _ g.met.C.Elem.BitStore.width_law) c.requires c.loop-step-test.true (rw inv.reads.numbers at c.load-element.ensures.value) inv.none _ c.in_ok-found.ensures in
     let below = first-inside _ g.O.BitOrder.at _ _ c.args.want _ c.requires found in
-    rw c.BITS.ensures (omega arith)
+    omega arith
 
 pub returns-then-to_u128-ne0 : goal.returns-then-to_u128-ne0
 returns-then-to_u128-ne0 g c =
@@ -41,9 +41,9 @@ returns-then-to_u128-ne0 g c =
     let most = first-loads_behind (elements-split b c.args.first c.args.count c.loop-step.step some (omega arith)) some c.in_ok-found.found (omega arith) in
     let whole = touched-whole b c.args.first c.loop-step.step some in
     let one = touched-first b ((c.args.first + c.loop-step.step) * b) (c.in_ok-found.found + 1) (omega arith) in
-    rw c.BITS.ensures
+    rw c.bit_behind.ensures
     (record {
-      value = first-element_has b g.O.BitOrder.at _ _ _ _ _ c.args.want some c.requires c.loop-step-test.true (rw inv.reads.numbers at c.load-element.ensures.value) inv.none _ c.in_ok-found.ensures;
+      value = first-element_has b g.O.BitOrder.at _ c.args.want some c.requires c.loop-step-test.true (rw inv.reads.numbers at c.load-element.ensures.value) inv.none _ c.in_ok-found.ensures;
       reads = record { numbers = search rules; borrow = search rules; loads = omega arith; stores = search rules };
     })
 
@@ -53,7 +53,7 @@ loop-step-preserved g c =
     let inv = c.loop-step.invariant in
     let width = g.met.C.Elem.BitStore.width_law in
     record {
-      none = first-element_lacks b g.O.BitOrder.at _ _ _ _ _ c.args.want (width_some _ width) c.requires c.loop-step-test.true (rw inv.reads.numbers at c.load-element.ensures.value) inv.none
+      none = first-element_lacks b g.O.BitOrder.at _ c.args.want (width_some _ width) c.requires c.loop-step-test.true (rw inv.reads.numbers at c.load-element.ensures.value) inv.none
           (first-passed b g.O.BitOrder.at (g.met.O.BitOrder.permutes _ width) _ _ _ c.args.want c.xor.ensures (sym c.to_u128.ensures.number ∙ c.if-to_u128-ne0.false) c.filled-lacking.ensures);
       reads = search rules;
     }

@@ -27,17 +27,15 @@ last_in_part-requires g c =
     let told = c.split_tail-first.ensures in
     HasPart-is (told.part c.if-tail-eq0.false) (HasWindow-behind told.split c.requires.window)
 
-pub overflow_add-result : goal.overflow_add-result
-overflow_add-result g c =
-    let few = split-last_few c.split_tail-first.ensures.split g.O.BitOrder.at c.requires.window c.args.want _ c.in-Some.ensures.value in
-    rw c.BITS.ensures (omega arith)
+pub bit_behind-requires : goal.bit_behind-requires
+bit_behind-requires g c = split-last_few c.split_tail-first.ensures.split g.O.BitOrder.at c.requires.window c.args.want _ c.in-Some.ensures.value
 
 pub returns-in-Some : goal.returns-in-Some
 returns-in-Some g c =
     let found = split-last c.split_tail-first.ensures.split g.O.BitOrder.at c.requires.window c.args.want _ c.in-Some.ensures.value in
     let inside = last-inside g.O.BitOrder.at c.args.want c.requires.window found in
     let some = last_loads-some g.C.Elem.BitStore.BITS c.args.window _ (omega (arith, inside _ refl)) inside in
-    rw c.BITS.ensures (record { value = found; reads = reads-most (reads-exact c.in-Some.ensures.reads) some })
+    rw c.bit_behind.ensures (record { value = found; reads = reads-most (reads-exact c.in-Some.ensures.reads) some })
 
 pub last_whole-requires-2 : goal.last_whole-requires-2
 last_whole-requires-2 g c = rw c.in_default.ensures.reads.numbers (HasWindow-front c.split_tail-first.ensures.split c.requires.window)

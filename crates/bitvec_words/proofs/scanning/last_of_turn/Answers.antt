@@ -6,7 +6,7 @@ use Rattle.bitvec_words.specs.Elements.{elements_window}
 use Rattle.bitvec_words.specs.TouchedLaws.{touched-whole}
 use Rattle.bitvec_words.specs.WholeLaws.{list-empty}
 use Rattle.bitvec_words.proofs.CostLemmas.{reads-exact, reads-most}
-use Rattle.bitvec_words.proofs.ScanLemmas.{last-below, last-inside, last-must, last-passed, last_loads-some, range-element}
+use Rattle.bitvec_words.proofs.ScanLemmas.{last-below, last-inside, last-must, last-passed, last_loads-some}
 use Rattle.bitvec_words.proofs.SplitLemmas.{elements-split, last-element_has, last-element_lacks, last-loads_front}
 use Rattle.bitvec_words.proofs.PlaceLemmas.{element-inside}
 use Rattle.bitvec_words.proofs.scanning.last_of_turn.Goals as goal
@@ -24,25 +24,21 @@ pub load-element-requires : goal.load-element-requires
 load-element-requires g c =
     rw c.loop-step.invariant.reads.numbers (element-inside _ _ c.args.first c.args.count (c.loop-step.step - 1) (width_some _ g.met.C.Elem.BitStore.width_law) c.requires (omega arith))
 
-pub last_in_element-requires : goal.last_in_element-requires
-last_in_element-requires g c = record { order = omega arith; bound = omega arith }
-
 pub returns-in_err-found : goal.returns-in_err-found
 returns-in_err-found g c =
     let b = g.C.Elem.BitStore.BITS in
     let at = g.O.BitOrder.at in
-    let none = c.in_err-found.ensures ∙ ap (λ (l : List Bool). last_place c.args.want l) (range-element at _ c.BITS-bits.ensures) in
-    absurd (last-must b at (g.met.O.BitOrder.permutes _ g.met.C.Elem.BitStore.width_law) _ _ _ c.args.want (c.to_u128.ensures.number ∙ c.xor.ensures) c.if-to_u128-ne0.true c.load-element.ensures.in_range c.filled-lacking.ensures none)
+    absurd (last-must b at (g.met.O.BitOrder.permutes _ g.met.C.Elem.BitStore.width_law) _ _ _ c.args.want (c.to_u128.ensures.number ∙ c.xor.ensures) c.if-to_u128-ne0.true c.load-element.ensures.in_range c.filled-lacking.ensures c.in_err-found.ensures)
 
-pub overflow_add-result : goal.overflow_add-result
-overflow_add-result g c =
+pub bit_behind-requires : goal.bit_behind-requires
+bit_behind-requires g c =
     let b = g.C.Elem.BitStore.BITS in
     let at = g.O.BitOrder.at in
     let inv = c.loop-step.invariant in
-    let here = c.in_ok-found.ensures ∙ ap (λ (l : List Bool). last_place c.args.want l) (range-element at _ c.BITS-bits.ensures) in
-    let found = last-element_has b at _ _ _ (c.loop-step.step - 1) _ c.args.want (width_some _ g.met.C.Elem.BitStore.width_law) c.requires (omega arith) (rw inv.reads.numbers at c.load-element.ensures.value) _ (omega arith) inv.none _ here in
+    let here = c.in_ok-found.ensures in
+    let found = last-element_has b at _ c.args.want (width_some _ g.met.C.Elem.BitStore.width_law) c.requires (omega arith) (rw inv.reads.numbers at c.load-element.ensures.value) _ (omega arith) inv.none _ here in
     let below = last-inside at c.args.want c.requires found _ refl in
-    rw c.BITS-bits.ensures (omega arith)
+    omega arith
 
 pub returns-then-to_u128-ne0 : goal.returns-then-to_u128-ne0
 returns-then-to_u128-ne0 g c =
@@ -51,16 +47,16 @@ returns-then-to_u128-ne0 g c =
     let inv = c.loop-step.invariant in
     let load = c.load-element.ensures in
     let some = width_some _ g.met.C.Elem.BitStore.width_law in
-    let here = c.in_ok-found.ensures ∙ ap (λ (l : List Bool). last_place c.args.want l) (range-element at _ c.BITS-bits.ensures) in
+    let here = c.in_ok-found.ensures in
     let below = last-below b at _ _ c.args.want here in
     let upto : ℕ = c.loop-step.step - 1 + 1 in
     let inside : (i : ℕ) → Some ((c.loop-step.step - 1) * b + c.in_ok-found.found) ≡ Some i → i < upto * b = λ i is. (let same : (c.loop-step.step - 1) * b + c.in_ok-found.found ≡ i = cc in omega arith) in
     let most = last-loads_front (elements-split b c.args.first c.args.count upto some (omega arith)) some _ inside in
     let one = last_loads-some b (elements_window b c.args.first upto) _ (omega arith) inside in
     let left = touched-whole b (c.args.first + upto) (c.args.count - upto) some in
-    rw c.BITS-bits.ensures
+    rw c.bit_behind.ensures
     (record {
-      value = last-element_has b at _ _ _ _ _ c.args.want some c.requires (omega arith) (rw inv.reads.numbers at c.load-element.ensures.value) _ (omega arith) inv.none _ here;
+      value = last-element_has b at _ c.args.want some c.requires (omega arith) (rw inv.reads.numbers at c.load-element.ensures.value) _ (omega arith) inv.none _ here;
       reads = record { numbers = load.numbers ∙ inv.reads.numbers; borrow = load.borrow ∙ inv.reads.borrow; loads = omega arith; stores = load.stores ∙ inv.reads.stores };
     })
 
@@ -72,7 +68,7 @@ loop-step-preserved g c =
     let load = c.load-element.ensures in
     let width = g.met.C.Elem.BitStore.width_law in
     record {
-      none = last-element_lacks b at _ _ _ _ _ c.args.want (width_some _ width) c.requires (omega arith) (rw inv.reads.numbers at c.load-element.ensures.value) _ (omega arith) inv.none
+      none = last-element_lacks b at _ c.args.want (width_some _ width) c.requires (omega arith) (rw inv.reads.numbers at c.load-element.ensures.value) _ (omega arith) inv.none
           (last-passed b at (g.met.O.BitOrder.permutes _ width) _ _ _ c.args.want c.xor.ensures (sym c.to_u128.ensures.number ∙ c.if-to_u128-ne0.false) c.filled-lacking.ensures);
       reads = record { numbers = load.numbers ∙ inv.reads.numbers; borrow = load.borrow ∙ inv.reads.borrow; loads = omega arith; stores = load.stores ∙ inv.reads.stores };
     }

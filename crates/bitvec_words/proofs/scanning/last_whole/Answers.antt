@@ -37,7 +37,7 @@ returns-in-Some g c =
     let sum : passed + 4 ≡ next = omega arith in
     let within : next ≤ c.args.count = omega arith in
     let loads = last-turn_loads b at _ c.args.first c.args.count passed 4 next c.args.want some c.requires sum within _ here in
-    rw c.BITS.ensures
+    rw c.bit_behind.ensures
     (record {
       value = last-turn_has b at _ c.args.first c.args.count passed 4 next c.args.want some c.requires sum within inv.none _ here;
       reads = reads-both inv.reads c.in-Some.ensures.reads (omega arith);
@@ -83,8 +83,8 @@ returns g c =
       reads = reads-both inv.reads c.last_of_turn-2.ensures.reads (omega arith);
     }
 
-pub overflow_add-result : goal.overflow_add-result
-overflow_add-result g c =
+pub bit_behind-requires : goal.bit_behind-requires
+bit_behind-requires g c =
     let b = g.C.Elem.BitStore.BITS in
     let at = g.O.BitOrder.at in
     let some = width_some _ g.met.C.Elem.BitStore.width_law in
@@ -93,4 +93,4 @@ overflow_add-result g c =
     let passed : ℕ = c.args.count % 4 + (c.loop-step.step - 1) * 4 in
     let found = last-turn_has b at _ c.args.first c.args.count passed 4 (c.args.count % 4 + c.loop-step.step * 4) c.args.want some c.requires (omega arith) (omega arith) inv.none _ here in
     let below = last-inside at c.args.want c.requires found _ refl in
-    rw c.BITS.ensures (omega arith)
+    omega arith

@@ -4,18 +4,18 @@ use Rattle.bitvec_words.proofs.scanning_words.first_from_edge.Goals as goal
 
 pub first_in_elements-requires : goal.first_in_elements-requires
 first_in_elements-requires g c =
-    rw (c.div_ceil-count.ensures, c.BITS-bits.ensures) (HasWindow-touched _ g.O.BitOrder.at _ c.args.window c.args.want (width_some _ g.met.C.Elem.BitStore.width_law) c.requires.window c.requires.edge)
+    rw c.elements_from_edge-first.ensures (HasWindow-touched _ g.O.BitOrder.at _ c.args.window c.args.want (width_some _ g.met.C.Elem.BitStore.width_law) c.requires.window c.requires.edge)
 
 pub returns-in_err-found : goal.returns-in_err-found
 returns-in_err-found g c =
     let some = width_some _ g.met.C.Elem.BitStore.width_law in
-    let scan = rw (c.div_ceil-count.ensures, c.BITS-bits.ensures) at c.in_err-found.ensures in
+    let scan = rw c.elements_from_edge-first.ensures at c.in_err-found.ensures in
     rw (c.from_residual.ensures, touched-ceil _ c.args.window.start c.args.window.len some c.requires.edge)
     (record { value = first-touched_lacks _ g.O.BitOrder.at _ c.args.window c.args.want some c.requires.window c.requires.edge scan.value; reads = scan.reads })
 
 pub returns : goal.returns
 returns g c =
     let some = width_some _ g.met.C.Elem.BitStore.width_law in
-    let scan = rw (c.div_ceil-count.ensures, c.BITS-bits.ensures) at c.in_ok-found.ensures in
+    let scan = rw c.elements_from_edge-first.ensures at c.in_ok-found.ensures in
     rw (c.then_some.ensures, touched-ceil _ c.args.window.start c.args.window.len some c.requires.edge)
     (record { value = first-touched _ g.O.BitOrder.at _ c.args.window c.args.want some c.requires.window c.requires.edge _ scan.value; reads = scan.reads })

@@ -1,4 +1,4 @@
-use Rattle.std.proofs.Common.{◌/◌, arith, rules, sym, ◌∙◌, ap, Bool, List, ◌≡◌}
+use Rattle.std.proofs.Common.{arith, rules, sym, ◌∙◌, ap, Bool, List, ◌≡◌}
 use Rattle.bitvec_base.specs.Lists.{first_place}
 use Rattle.bitvec_base.specs.PlacesLaws.{first_place-nil}
 use Rattle.bitvec_words.specs.WholeLaws.{list-empty}
@@ -13,20 +13,13 @@ loop-step-init g c = record {
   reads = search rules;
 }
 
-pub first_in_block-requires : goal.first_in_block-requires
-first_in_block-requires g c =
-    let b = g.C.Elem.BitStore.BITS in
-    let width = g.met.C.Elem.BitStore.width_law in
-    rw (c.loop-step.invariant.reads.numbers, c.BITS.ensures) (block-of b 256 c.args.first c.args.count c.loop-step.step width c.requires c.loop-step-test.true).here
-
-pub overflow_add-result : goal.overflow_add-result
-overflow_add-result g c =
+pub place_behind-requires : goal.place_behind-requires
+place_behind-requires g c =
     let b = g.C.Elem.BitStore.BITS in
     let width = g.met.C.Elem.BitStore.width_law in
     let inv = c.loop-step.invariant in
     let here = block-of b 256 c.args.first c.args.count c.loop-step.step width c.requires c.loop-step-test.true in
-    let few = first-block_few here g.O.BitOrder.at c.args.want inv.none 256 _ (block_whole b width) (rw (c.BITS.ensures, inv.reads.numbers) at c.in-Some.ensures.value) in
-    omega arith
+    first-block_few here g.O.BitOrder.at c.args.want inv.none 256 _ (block_whole b width) (rw (c.behind_pieces-block.ensures, inv.reads.numbers) at c.in-Some.ensures.value)
 
 pub returns-in-Some : goal.returns-in-Some
 returns-in-Some g c =
@@ -35,19 +28,18 @@ returns-in-Some g c =
     let inv = c.loop-step.invariant in
     let here = block-of b 256 c.args.first c.args.count c.loop-step.step width c.requires c.loop-step-test.true in
     let few = here.upto.within in
-    record {
-      value = first-block_has here g.O.BitOrder.at c.args.want inv.none 256 _ (block_whole b width) (rw (c.BITS.ensures, inv.reads.numbers) at c.in-Some.ensures.value);
+    rw c.place_behind.ensures
+    (record {
+      value = first-block_has here g.O.BitOrder.at c.args.want inv.none 256 _ (block_whole b width) (rw (c.behind_pieces-block.ensures, inv.reads.numbers) at c.in-Some.ensures.value);
       reads = reads-before inv.reads c.in-Some.ensures.reads (omega arith);
-    }
+    })
 
 pub loop-step-preserved : goal.loop-step-preserved
 loop-step-preserved g c =
-    let b = g.C.Elem.BitStore.BITS in
-    let width = g.met.C.Elem.BitStore.width_law in
     let inv = c.loop-step.invariant in
-    let here = block-of b 256 c.args.first c.args.count c.loop-step.step width c.requires c.loop-step-test.true in
+    let here = block-of _ 256 c.args.first c.args.count c.loop-step.step g.met.C.Elem.BitStore.width_law c.requires c.loop-step-test.true in
     record {
-      none = first-block_lacks here g.O.BitOrder.at c.args.want inv.none (rw (c.BITS.ensures, inv.reads.numbers) at c.in_default.ensures.value);
+      none = first-block_lacks here g.O.BitOrder.at c.args.want inv.none (rw (c.behind_pieces-block.ensures, inv.reads.numbers) at c.in_default.ensures.value);
       reads = reads-sum inv.reads c.in_default.ensures.reads (omega arith);
     }
 
@@ -56,30 +48,3 @@ returns g c =
     let all : c.loop-step.step ≡ c.args.count = omega arith in
     let inv = rw all at c.loop-step.invariant in
     record { value = inv.none; reads = reads-exact inv.reads }
-
-pub overflow_mul-step : goal.overflow_mul-step
-overflow_mul-step g c =
-    let b = g.C.Elem.BitStore.BITS in
-    let width = g.met.C.Elem.BitStore.width_law in
-    let here = block-of b 256 c.args.first c.args.count c.loop-step.step width c.requires c.loop-step-test.true in
-    let few = here.upto.few in
-    let within = here.upto.within in
-    record { fits = rw c.BITS.ensures (omega arith) }
-
-pub overflow_add-first : goal.overflow_add-first
-overflow_add-first g c =
-    let b = g.C.Elem.BitStore.BITS in
-    let width = g.met.C.Elem.BitStore.width_law in
-    let here = block-of b 256 c.args.first c.args.count c.loop-step.step width c.requires c.loop-step-test.true in
-    let few = here.upto.few in
-    let within = here.upto.within in
-    record { fits = rw c.BITS.ensures (omega arith) }
-
-pub overflow_mul-result : goal.overflow_mul-result
-overflow_mul-result g c =
-    let b = g.C.Elem.BitStore.BITS in
-    let width = g.met.C.Elem.BitStore.width_law in
-    let inv = c.loop-step.invariant in
-    let here = block-of b 256 c.args.first c.args.count c.loop-step.step width c.requires c.loop-step-test.true in
-    let few = first-block_few here g.O.BitOrder.at c.args.want inv.none 256 _ (block_whole b width) (rw (c.BITS.ensures, inv.reads.numbers) at c.in-Some.ensures.value) in
-    omega arith

@@ -4,10 +4,10 @@ use Rattle.bitvec_words.proofs.ScanLemmas.{first-behind, first-below, first-fron
 use Rattle.bitvec_words.proofs.scanning_words.first_of_two.Goals as goal
 
 pub returns-in-Some : goal.returns-in-Some
-returns-in-Some g c = first-front c.args.want _ _ _ _ c.in-Some.ensures refl
+returns-in-Some g c = first-front c.args.want _ _ c.in-Some.ensures refl
 
 pub returns-in_err-found : goal.returns-in_err-found
-returns-in_err-found g c = rw c.from_residual.ensures (first-lacks c.args.want _ _ _ c.in_default.ensures c.in_err-found.ensures refl)
+returns-in_err-found g c = rw c.from_residual.ensures (first-lacks c.args.want _ _ c.in_default.ensures c.in_err-found.ensures refl)
 
 pub overflow_add-result : goal.overflow_add-result
 overflow_add-result g c =

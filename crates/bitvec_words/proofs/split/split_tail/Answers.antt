@@ -2,21 +2,14 @@ use Rattle.bitvec_words.specs.TouchedLaws.{touched-full, touched-more}
 use Rattle.std.proofs.Common.{arith}
 use Rattle.std.proofs.lemmas.Nat.{mod_below}
 use Rattle.bitvec_store.specs.WidthLaws.{width_some}
-use Rattle.bitvec_words.specs.WordLaws.{width-some}
 use Rattle.bitvec_words.proofs.SplitLemmas.{tail-split}
 use Rattle.bitvec_words.proofs.split.split_tail.Goals as goal
-
-pub whole_elements-first-requires : goal.whole_elements-first-requires
-whole_elements-first-requires g c = width-some g.met.T.BitStore.width_law c.BITS-bits.ensures
-
-pub tail_part-requires : goal.tail_part-requires
-tail_part-requires g c = record { bits = width-some g.met.T.BitStore.width_law c.BITS-bits.ensures; end = c.requires.end }
 
 pub returns : goal.returns
 returns g c =
     let some = width_some _ g.met.T.BitStore.width_law in
     let below = mod_below c.args.window.len g.T.BitStore.BITS some in
-    rw (c.whole_elements-first.ensures, c.tail_part.ensures, c.BITS-bits.ensures)
+    rw (c.whole_elements-first.ensures, c.tail_part.ensures)
     (record {
       split = tail-split _ c.args.window some c.requires.edge;
       part = λ left. record { some = omega arith; bound = omega arith };

@@ -15,18 +15,15 @@ pub loop-step-preserved : goal.loop-step-preserved
 loop-step-preserved g c =
     let b = g.T.BitStore.BITS in
     let width = g.met.T.BitStore.width_law in
-    let more = rw c.BITS-bits.ensures at c.loop-step-test.true in
     let taken = rw c.BITS-bits.ensures at c.moved-element.ensures in
     let moved = rw c.BITS-bits.ensures at c.moved-ordered.ensures in
     record {
-      value = λ xs elements. word-next b g.O.BitOrder.at (g.met.O.BitOrder.permutes b width) width c.requires c.args.word xs elements _ _ _ c.loop-step.step more (c.loop-step.invariant.value xs elements) taken moved;
+      value = λ xs elements. word-next b g.O.BitOrder.at (g.met.O.BitOrder.permutes b width) width c.requires c.args.word xs elements _ _ _ c.loop-step.step (omega arith) (c.loop-step.invariant.value xs elements) taken moved;
     }
 
 pub returns : goal.returns
 returns g c = λ xs elements.
     let b = g.T.BitStore.BITS in
     let width = g.met.T.BitStore.width_law in
-    let end = rw c.BITS-bits.ensures at c.loop-step-test.false in
-    let most = rw c.BITS-bits.ensures at c.loop-step.auto.step-end in
     let all : c.loop-step.step ≡ 64 / b = omega arith in
     c.loop-step.invariant.value xs elements ∙ word-all b g.O.BitOrder.at (g.met.O.BitOrder.permutes b width) width c.requires c.args.word xs elements c.loop-step.step all
