@@ -1,5 +1,5 @@
 -- What one call costs, and two calls together, one after the other.
-use Rattle.std.specs.Prelude.{◌≡◌, ℕ, ◌+◌, ◌*◌, ◌≤◌, refl}
+use Rattle.std.specs.Prelude.{◌≡◌, ℕ, ◌+◌, ◌≤◌, refl}
 use Rattle.std.proofs.Common.{arith, ◌∙◌}
 use Rattle.bitvec_cells.specs.Access.{Costs, CostsAtMost, OnlyReads, OnlyReadsAtMost}
 use Rattle.bitvec_cells.specs.declared.cells.CellsRead.{Ghosts as Access}

@@ -1,4 +1,4 @@
-use Rattle.std.proofs.Common.{◌≡◌, ℕ, ◌-◌, ◌+◌, arith, refl, ap, sym, ◌∙◌, take}
+use Rattle.std.proofs.Common.{ℕ, ◌-◌, ◌+◌, arith, refl, ap, sym, ◌∙◌, take}
 use Rattle.bitvec_base.specs.declared.part.Part.{Part}
 use Rattle.bitvec_base.specs.Memory.{element_bits}
 use Rattle.bitvec_base.specs.WritesLaws.{Writes-empty, Writes-is}
