@@ -1,10 +1,8 @@
 -- What proofs of copies, moves and exchanges need of windows and costs, said by plain numbers.
-use Rattle.std.proofs.Common.{◌≡◌, ℕ, ◌+◌, ◌-◌, ◌*◌, ◌/◌, ◌<◌, ◌≤◌, true, List, length, arith}
+use Rattle.std.proofs.Common.{◌≡◌, ℕ, ◌+◌, ◌*◌, ◌/◌, ◌<◌, ◌≤◌, true, List, length, arith}
 use Rattle.std.proofs.lemmas.Nat.{div_below}
-use Rattle.bitvec_base.specs.declared.part.Part.{Part}
 use Rattle.bitvec_base.specs.declared.window.Window.{Window}
 use Rattle.bitvec_base.specs.Memory.{HasWindow}
-use Rattle.bitvec_base.specs.Parts.{first_part_of}
 use Rattle.bitvec_base.specs.Spans.{HasSpan}
 use Rattle.bitvec_base.specs.Window.{window_after}
 use Rattle.bitvec_base.specs.WritesLaws.{HasWindow-kept}
@@ -22,15 +20,6 @@ pub place-element : {b : ℕ} {xs : List ℕ} (ys : List ℕ) {window : Window} 
 place-element {b} {xs} ys e width has below kept =
     let all : e < length xs * b = omega arith in
     rw kept (div_below e b (length xs) (width_some b width) all)
-
-pub head-order : (w : ℕ) (window : Window) (part : Part) → part ≡ first_part_of w window → part.from ≤ part.to
-head-order w window part is = rw is (omega arith)
-
--- the first part has no more bits than the window
-pub head-fits : {t : ℕ} (w : ℕ) (window : Window) {part : Part} → t ≡ part.to - part.from → part ≡ first_part_of w window → t ≤ window.len
-head-fits w window step is =
-    let long = rw is at step in
-    omega arith
 
 -- the elements that n bits touch are some of the loads and stores of as many bits
 pub touched-read : (b s : ℕ) {n m : ℕ} → 0 < b → m ≡ n → touched_count b s n ≤ read_loads b true m

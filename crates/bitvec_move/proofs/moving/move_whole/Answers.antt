@@ -1,12 +1,8 @@
-use Rattle.std.proofs.Common.{ℕ, Bool, ◌≡◌, ◌<◌, ◌≤◌, ◌+◌, ◌-◌, ◌*◌, ◌/◌, arith, nat_eq, not}
+use Rattle.std.proofs.Common.{ℕ, Bool, ◌≡◌, ◌+◌, ◌-◌, ◌*◌, ◌/◌, arith, nat_eq, not}
 use Rattle.bitvec_move.proofs.CostSums.{Costs-none, Costs-sum}
 use Rattle.bitvec_move.proofs.TurnLaws.{CopiesSome-turn, CopiesSome-whole, turn-span, turn-toward}
 use Rattle.bitvec_move.proofs.WithinLaws.{CopiesSome-none}
 use Rattle.bitvec_move.proofs.moving.move_whole.Goals as goal
-
--- a turn's elements, as plain numbers
-turn-more : (step n : ℕ) → step < n / 128 → step * 128 + 128 ≤ n
-turn-more step n more = omega arith
 
 pub loop-step-init : goal.loop-step-init
 loop-step-init g c = record {
@@ -17,7 +13,7 @@ loop-step-init g c = record {
 pub move_each-requires-clause-span : goal.move_each-requires-clause-span
 move_each-requires-clause-span g c =
     rw c.turn_place-here.ensures.place
-    (turn-span (not (nat_eq g.row.LATER 0)) _ _ _ c.args.moved.first c.args.moved.source c.args.moved.count (c.loop-step.step * 128) 128 c.requires.span c.loop-step.invariant.writes.elements (turn-more _ _ c.loop-step-test.true))
+    (turn-span (not (nat_eq g.row.LATER 0)) _ _ _ c.args.moved.first c.args.moved.source c.args.moved.count (c.loop-step.step * 128) 128 c.requires.span c.loop-step.invariant.writes.elements (omega arith))
 
 pub move_each-requires-clause-towards : goal.move_each-requires-clause-towards
 move_each-requires-clause-towards g c = turn-toward (not (nat_eq g.row.LATER 0)) c.args.moved.first c.args.moved.source c.turn_place-here.result c.requires.towards
@@ -27,7 +23,7 @@ loop-step-preserved g c =
     let inv = c.loop-step.invariant in
     let next : (c.loop-step.step + 1) * 128 ≡ c.loop-step.step * 128 + 128 = omega arith in
     record {
-      writes = rw next (CopiesSome-turn (not (nat_eq g.row.LATER 0)) c.args.moved.first c.args.moved.source c.args.moved.count (c.loop-step.step * 128) 128 c.requires.span c.requires.towards (turn-more _ _ c.loop-step-test.true) inv.writes
+      writes = rw next (CopiesSome-turn (not (nat_eq g.row.LATER 0)) c.args.moved.first c.args.moved.source c.args.moved.count (c.loop-step.step * 128) 128 c.requires.span c.requires.towards (omega arith) inv.writes
           (rw c.turn_place-here.ensures.place at c.move_each.ensures.writes));
       cost = Costs-sum g.C.CellsRead inv.cost c.move_each.ensures.cost next next;
     }

@@ -1,4 +1,4 @@
-use Rattle.std.proofs.Common.{ℕ, Bool, ◌≡◌, ◌<◌, ◌≤◌, ◌+◌, ◌*◌, ◌/◌, ◌∙◌, arith, nat_eq, not}
+use Rattle.std.proofs.Common.{ℕ, Bool, ◌≡◌, ◌≤◌, ◌+◌, ◌*◌, ◌/◌, ◌∙◌, arith, nat_eq, not}
 use Rattle.std.proofs.Math.Nat.{le_refl}
 use Rattle.bitvec_move.proofs.CostSums.{Costs-held, Costs-word}
 use Rattle.bitvec_move.proofs.WithinLaws.{CopiesSome-none, CopiesSome-part}
@@ -7,26 +7,8 @@ use Rattle.bitvec_move.proofs.moving_words.shift_words.Goals as goal
 
 -- ---- places, as plain numbers: of n bytes, k are moved
 
-turn-fits : (step n : ℕ) → step < n / 8 → step * 8 + 8 ≤ n
-turn-fits step n more = omega arith
-
-turn-next : (step : ℕ) → step * 8 + 8 ≡ (step + 1) * 8
-turn-next step = omega arith
-
-added-most : (k : ℕ) → k ≤ k + 8
-added-most k = omega arith
-
-added-least : (k : ℕ) → 8 ≤ k + 8
-added-least k = omega arith
-
 next-sum : (s p a : ℕ) → s + p + a ≡ s + (p + a)
 next-sum s p a = omega arith
-
-eighths : (step n : ℕ) → step ≡ n / 8 → step * 8 ≤ n
-eighths step n all = omega arith
-
-eighths-end : (step n : ℕ) → step ≡ n / 8 → n ≤ step * 8 + 8
-eighths-end step n all = omega arith
 
 -- ---- each word
 
@@ -54,14 +36,14 @@ loop-step-preserved g c =
     let before = rw bytes at inv.writes in
     let carried = rw bytes at inv.carried in
     let places = c.carried_place-to.ensures in let place = c.word_place-place.ensures.place in
-    let fits = turn-fits _ count c.loop-step-test.true in
-    let done = turn-next c.loop-step.step in
+    let fits : k + 8 ≤ count = omega arith in
+    let done : k + 8 ≡ (c.loop-step.step + 1) * 8 = omega arith in
     let kept = word-left later at now k c.requires.towards skipped fits before in
     let word = rw (bytes, places.ahead, place, next-sum source, kept) at c.load_elements-next.ensures.value in
     let joined = rw places.to at c.joined-word.ensures ∙ word-joined later at k c.loop-step.last c.load_elements-next.result skipped fits carried word c.in_order-low.ensures in
     let stored = rw (bytes, place, c.load_elements-next.ensures.reads.numbers) at c.store_elements.ensures.writes in
     record {
-      writes = rw bytes (rw done at (CopiesSome-part later first source skip count k (k + 8) 8 skipped.span (added-most k) (le_refl (k + 8)) (added-least k) fits before stored joined));
+      writes = rw bytes (rw done at (CopiesSome-part later first source skip count k (k + 8) 8 skipped.span (omega arith) (le_refl (k + 8)) (omega arith) fits before stored joined));
       carried = rw (bytes, word, ← done) (word-carried later at k skipped fits);
       cost = Costs-word g.C.CellsRead _ _ _ _ c.loop-step.step inv.cost (rw bytes at c.load_elements-next.ensures.reads) (rw bytes at c.store_elements.ensures.cost);
     }
@@ -82,4 +64,4 @@ returns-clause-writes g c =
     let held = rw (bytes, edge) at c.load_skipped-held.ensures.value in
     let stored = rw (bytes, edge) at c.store_elements-2.ensures.writes in
     rw bytes (CopiesSome-all later at old _ moved.first moved.source moved.skip moved.count
-    (CopiesSome-part later moved.first moved.source moved.skip moved.count (c.loop-step.step * 8) moved.count 8 skipped.span (eighths _ _ all) (eighths-end _ _ all) c.requires.word (le_refl moved.count) before stored held))
+    (CopiesSome-part later moved.first moved.source moved.skip moved.count (c.loop-step.step * 8) moved.count 8 skipped.span (omega arith) (omega arith) c.requires.word (le_refl moved.count) before stored held))

@@ -1,4 +1,4 @@
-use Rattle.std.proofs.Common.{ℕ, ◌∙◌, ◌+◌, ◌<◌, arith, ap, slice_index, ◌≡◌}
+use Rattle.std.proofs.Common.{◌∙◌, ◌+◌, arith, ap, slice_index, ◌≡◌}
 use Rattle.bitvec_store.specs.WidthLaws.{width_some}
 use Rattle.bitvec_base.specs.Memory.{element_bits}
 use Rattle.bitvec_base.specs.MemoryLaws.{length-element_bits}
@@ -10,9 +10,6 @@ use Rattle.bitvec_words.specs.WordLaws.{inside-word}
 use Rattle.bitvec_words.specs.MovedPlaceLaws.{from-word, next-word}
 use Rattle.bitvec_move.proofs.CostSums.{Costs-next, Costs-none}
 use Rattle.bitvec_move.proofs.swapping_shifted.swap_each.Goals as goal
-
-before-next : (e n : ℕ) → e + 1 < n → e < n
-before-next e n next = omega arith
 
 pub overflow_add-first : goal.overflow_add-first
 overflow_add-first g c =
@@ -40,7 +37,7 @@ store-requires g c = rw c.load-element.ensures.numbers (next_element _ _ _ _ (wi
 pub store-requires-in-loop-step : goal.store-requires-in-loop-step
 store-requires-in-loop-step g c =
     let next = across-next _ _ _ _ c.requires c.loop-step-test.true c.loop-step.invariant.swaps.right_writes in
-    rw c.load-next.ensures.numbers (before-next _ _ next)
+    rw c.load-next.ensures.numbers (omega arith)
 
 pub returns : goal.returns
 returns g c =

@@ -12,9 +12,6 @@ use Rattle.bitvec_words.specs.MovedPlaceLaws.{from-inside, from-word, tail-span,
 use Rattle.bitvec_move.proofs.MoveLemmas.{SwapsWindows-same, place-element}
 use Rattle.bitvec_move.proofs.swapping_shifted.swap_rest.Goals as goal
 
-same-most : (m n : ℕ) → m ≡ n → m ≤ n
-same-most m n same = omega arith
-
 pub swap_across-last-requires : goal.swap_across-last-requires
 swap_across-last-requires g c =
     let b = g.C.Elem.BitStore.BITS in
@@ -28,7 +25,7 @@ swap_across-last-requires g c =
 
 pub store-requires : goal.store-requires
 store-requires g c =
-    let has = whole-window_from c.args.left_window.len g.met.C.Elem.BitStore.width_law refl c.requires.skipped.span.beside (same-most _ _ c.requires.skipped.span.lengths) in
+    let has = whole-window_from c.args.left_window.len g.met.C.Elem.BitStore.width_law refl c.requires.skipped.span.beside (omega arith) in
     let here = from-inside _ _ _ _ (c.args.left_window.len / g.C.Elem.BitStore.BITS) has c.requires.skipped.inside (le_refl _) refl in
     rw c.of-stretch.ensures (omega (arith, length-set {A = ℕ}))
 
@@ -116,6 +113,6 @@ store-requires-2 g c =
 
 pub overflow_add-stretch : goal.overflow_add-stretch
 overflow_add-stretch g c =
-    let has = whole-window_from c.args.left_window.len g.met.C.Elem.BitStore.width_law refl c.requires.skipped.span.beside (same-most _ _ c.requires.skipped.span.lengths) in
+    let has = whole-window_from c.args.left_window.len g.met.C.Elem.BitStore.width_law refl c.requires.skipped.span.beside (omega arith) in
     let below = from-word _ _ _ (c.args.left_window.len / g.C.Elem.BitStore.BITS) g.met.C.Elem.BitStore.width_law has c.requires.skipped.inside (le_refl _) in
     rw c.of-stretch.ensures (omega arith)
