@@ -14,4 +14,4 @@ returns-then-left_window-right_window-clause-value g c =
 
 pub returns-else-left_window-right_window-clause-value : goal.returns-else-left_window-right_window-clause-value
 returns-else-left_window-right_window-clause-value g c =
-    ne_eqb _ _ c.if-left_window-right_window.false ∙ same-unequal _ _ (length-list _ c.requires.window) (length-list _ c.requires.right_window) c.if-left_window-right_window.false
+    ne_eqb _ _ c.if-left_window-right_window.false ∙ same-unequal _ _ (length-list g.O.BitOrder.at c.requires.window) (length-list g.P.BitOrder.at c.requires.right_window) c.if-left_window-right_window.false

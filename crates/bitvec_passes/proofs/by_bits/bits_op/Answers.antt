@@ -25,7 +25,7 @@ loop-index-preserved g c =
     let list = list_in g.D.Elem.BitStore.BITS g.P.BitOrder.at (g.D.CellsRead.numbers c.args.right.now) c.args.from in
     let other : c.if-index-from.other ≡ slice_index_or list c.loop-index.index false = elim c.if-index-from.branch [
       | then-index-from w ↦ w.other-is ∙ rw inv.right.numbers at w.get_bit-other.ensures.value
-      | else-index-from w ↦ w.other-is ∙ le-ltb _ _ w.if-index-from.false ∙ sym (window-past _ _ _ _ (within-list _ c.requires.right_window) w.if-index-from.false)
+      | else-index-from w ↦ w.other-is ∙ le-ltb _ _ w.if-index-from.false ∙ sym (window-past _ c.args.from c.loop-index.index false (within-list g.P.BitOrder.at c.requires.right_window) w.if-index-from.false)
     ] in
     let right : OnlyReads g.D.CellsRead c.args.right.now c.if-index-from.right (min (c.loop-index.index + 1) c.args.from.len) = elim c.if-index-from.branch [
       | then-index-from w ↦ let read = w.get_bit-other.ensures.reads in

@@ -12,8 +12,7 @@ use Rattle.bitvec_passes.proofs.storing.store_few.Goals as goal
 
 pub returns-then-window-BITS-clause-writes : goal.returns-then-window-BITS-clause-writes
 returns-then-window-BITS-clause-writes g c =
-    let short = rw c.BITS.ensures at c.if-window-BITS.true in
-    Writes-is c.store_short.ensures.writes (few-stored _ g.W.BitOrder.at c.args.window.len (g.C.Elem.BitStore.value c.moved-element.result) c.args.word short c.requires.bound c.moved-element.ensures)
+    Writes-is c.store_short.ensures.writes (few-stored _ g.W.BitOrder.at c.args.window.len (g.C.Elem.BitStore.value c.moved-element.result) c.args.word (omega arith) c.requires.bound c.moved-element.ensures)
 
 pub returns-then-window-BITS-clause-cost : goal.returns-then-window-BITS-clause-cost
 returns-then-window-BITS-clause-cost g c =
