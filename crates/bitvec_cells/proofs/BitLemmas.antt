@@ -1,5 +1,5 @@
 -- One bit of a window: which place of the memory it is, and how it is tested and written.
-use Rattle.std.specs.Prelude.{◌≡◌, ℕ, ◌+◌, ◌*◌, ◌^◌, ◌<◌, ◌==◌, Bool, not, nat_eq, List, length, slice_index_or, bit_and, zero, suc}
+use Rattle.std.specs.Prelude.{◌≡◌, ℕ, ◌+◌, ◌*◌, ◌^◌, ◌<◌, ◌==◌, false, not, nat_eq, List, length, slice_index_or, bit_and, zero, suc}
 use Rattle.std.specs.Int.{bit_at}
 use Rattle.std.proofs.Common.{arith, ◌∙◌, ap}
 use Rattle.std.proofs.lemmas.Bool.{ne_eqb}
@@ -22,10 +22,10 @@ pub tested : (v p : ℕ) → not (nat_eq (bit_and v (2 ^ p)) 0) ≡ (bit_at v p 
 tested v p = rw (and_pow v p) (weighted (bit_at v p) (2 ^ p) (bit_at-lt v p) (pow_pos p))
 
 -- the bit at an index of a window
-pub get-window : (b : ℕ) (at : ℕ → ℕ → ℕ) (xs : List ℕ) (window : Window) (k : ℕ) (d : Bool) → IsWithin window (b * length xs) → k < window.len → slice_index_or (window_of (memory_bits b at xs) window) k d ≡ place_bit b at xs (window.start + k)
+pub get-window : (b : ℕ) (at : ℕ → ℕ → ℕ) (xs : List ℕ) {window : Window} {k : ℕ} → IsWithin window (b * length xs) → k < window.len → slice_index_or (window_of (memory_bits b at xs) window) k false ≡ place_bit b at xs (window.start + k)
 unfolding window_of
-get-window b at xs window k d within h =
+get-window b at xs {window} {k} within h =
     let start = within.start in
     let len = within.len in
-    get-slice_range (memory_bits b at xs) window.start (window.start + window.len) k d (omega arith)
-    ∙ get-memory_bits b at xs (window.start + k) d (omega arith)
+    get-slice_range (memory_bits b at xs) window.start (window.start + window.len) k false (omega arith)
+    ∙ get-memory_bits b at xs (window.start + k) false (omega arith)

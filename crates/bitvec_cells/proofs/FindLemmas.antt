@@ -63,7 +63,7 @@ sought-shows b at p v m from to want order bound fits is =
           get-element_bits b at v i false below ∙ is_wanted _ _ want (bit_at-lt v (at b i)) (flipped i below) (sym (bit_if v (2 ^ b - 1 - v) (at b i) want) ∙ (ones i below set).0);
     }
 
-module _ (b : ℕ) (at : ℕ → ℕ → ℕ) (v m from to : ℕ) (want : Bool) (bound : to ≤ b) (shows : Shows b at v m from to want) where
+module _ {b : ℕ} {at : ℕ → ℕ → ℕ} {v m from to : ℕ} {want : Bool} (bound : to ≤ b) (shows : Shows b at v m from to want) where
   long_ones : length (element_bits b at m) ≡ b
   long_ones = length-element_bits b at m
 
@@ -93,20 +93,20 @@ module _ (b : ℕ) (at : ℕ → ℕ → ℕ) (v m from to : ℕ) (want : Bool) 
       let long = long_ones in
       sym (last_place-none want (slice_range (element_bits b at v) from to) (λ k inside here. last_place-absent true (element_bits b at m) (sym none) (from + k) (omega arith) (part-set k (omega arith) here)))
 
-  pub first-sought_from : (i : ℕ) → Some i ≡ first_place true (element_bits b at m) → from ≤ i
-  first-sought_from i found =
+  pub first-sought_from : {i : ℕ} → Some i ≡ first_place true (element_bits b at m) → from ≤ i
+  first-sought_from {i} found =
       let long = long_ones in
       let below = first_place-below true (element_bits b at m) i (sym found) in
       shows.low i (omega arith) (first_place-bit true (element_bits b at m) i (sym found))
 
-  pub last-sought_from : (i : ℕ) → Some i ≡ last_place true (element_bits b at m) → from ≤ i
-  last-sought_from i found =
+  pub last-sought_from : {i : ℕ} → Some i ≡ last_place true (element_bits b at m) → from ≤ i
+  last-sought_from {i} found =
       let long = long_ones in
       let below = last_place-below true (element_bits b at m) i (sym found) in
       shows.low i (omega arith) (last_place-bit true (element_bits b at m) i (sym found))
 
-  pub first-sought : (i : ℕ) → Some i ≡ first_place true (element_bits b at m) → Some (i - from) ≡ first_place want (slice_range (element_bits b at v) from to)
-  first-sought i found =
+  pub first-sought : {i : ℕ} → Some i ≡ first_place true (element_bits b at m) → Some (i - from) ≡ first_place want (slice_range (element_bits b at v) from to)
+  first-sought {i} found =
       let part = long_part in
       let long = long_ones in
       let inside = first_place-below true (element_bits b at m) i (sym found) in
@@ -117,8 +117,8 @@ module _ (b : ℕ) (at : ℕ → ℕ → ℕ) (v m from to : ℕ) (want : Bool) 
       sym (first_place-found want (slice_range (element_bits b at v) from to) (i - from) (omega arith) (set-part i below set)
       (λ k before here. first_place-before true (element_bits b at m) i (from + k) (sym found) (omega arith) (part-set k (omega arith) here)))
 
-  pub last-sought : (i : ℕ) → Some i ≡ last_place true (element_bits b at m) → Some (i - from) ≡ last_place want (slice_range (element_bits b at v) from to)
-  last-sought i found =
+  pub last-sought : {i : ℕ} → Some i ≡ last_place true (element_bits b at m) → Some (i - from) ≡ last_place want (slice_range (element_bits b at v) from to)
+  last-sought {i} found =
       let part = long_part in
       let long = long_ones in
       let inside = last_place-below true (element_bits b at m) i (sym found) in

@@ -1,5 +1,5 @@
 -- What is done with a part of an element, to the bits of the memory.
-use Rattle.std.specs.Prelude.{◌≡◌, ℕ, ◌+◌, ◌-◌, ◌*◌, ◌/◌, ◌%◌, ◌^◌, ◌<◌, ◌≤◌, if◌then◌else◌, Bool, true, false, not, List, [], ◌∷◌, length, map, replicate, slice_range, slice_set, slice_index, bit_and, bit_xor, refl, zero, suc}
+use Rattle.std.specs.Prelude.{◌≡◌, ℕ, ◌+◌, ◌-◌, ◌*◌, ◌/◌, ◌%◌, ◌^◌, ◌<◌, ◌≤◌, if◌then◌else◌, Bool, true, false, not, List, [], ◌∷◌, length, map, replicate, slice_range, slice_set, slice_index, bit_and, bit_xor, count_by, count_ones, refl, zero, suc}
 use Rattle.std.specs.Int.{bit_at}
 use Rattle.std.proofs.Common.{arith, sym, ◌∙◌, ap}
 use Rattle.std.proofs.Math.Nat.{mod-eq_of_lt}
@@ -15,7 +15,7 @@ use Rattle.bitvec_base.specs.Window.{window_of, write_at}
 use Rattle.bitvec_store.specs.WidthLaws.{width_some}
 use Rattle.bitvec_base.specs.WriteLaws.{length-slice_range, write_at-all}
 use Rattle.bitvec_base.specs.MemoryLaws.{bit_of_complement, element_fits, length-element_bits, length-memory_bits}
-use Rattle.bitvec_base.specs.PartLaws.{mask_of-whole, part-clear, part-flip, part-set, part-write}
+use Rattle.bitvec_base.specs.PartLaws.{mask_of-whole, part-clear, part-count, part-flip, part-range, part-set, part-write}
 use Rattle.bitvec_cells.specs.Element.{put_mask}
 use Rattle.bitvec_cells.specs.ElementLaws.{element-filled, single_mask}
 
@@ -27,8 +27,8 @@ replicate_one : (n : ℕ) (bit : Bool) → n ≡ 1 → replicate n bit ≡ bit �
 replicate_one n bit e = rw e refl
 
 -- a place of the memory, put
-pub place-put : (b : ℕ) (at : ℕ → ℕ → ℕ) → IsWidth b → Permutes b (at b) → (xs : List ℕ) (j : ℕ) (bit : Bool) → j < b * length xs → memory_bits b at (slice_set xs (j / b) (put_mask b (slice_index xs (j / b)) (2 ^ at b (j % b)) bit)) ≡ write_at (memory_bits b at xs) j (bit ∷ [])
-place-put b at w p xs j bit h =
+pub place-put : {b : ℕ} (at : ℕ → ℕ → ℕ) → IsWidth b → Permutes b (at b) → (xs : List ℕ) {j : ℕ} (bit : Bool) → j < b * length xs → memory_bits b at (slice_set xs (j / b) (put_mask b (slice_index xs (j / b)) (2 ^ at b (j % b)) bit)) ≡ write_at (memory_bits b at xs) j (bit ∷ [])
+place-put {b} at w p xs {j} bit h =
     let some = width_some b w in
     let inside : j / b < length xs = div_below j b (length xs) some (omega arith) in
     let below : j % b < b = mod_below j b some in
@@ -51,10 +51,18 @@ whole-set b at w p xs e v bit h filled =
 
 -- ---- a part is a window of the memory
 
-pub part-list : (b : ℕ) (at : ℕ → ℕ → ℕ) (xs : List ℕ) (part : Part) → part.from ≤ part.to → list_in b at xs (part_window b part) ≡ slice_range (memory_bits b at xs) (part.element * b + part.from) (part.element * b + part.to)
+part-list : (b : ℕ) (at : ℕ → ℕ → ℕ) (xs : List ℕ) (part : Part) → part.from ≤ part.to → list_in b at xs (part_window b part) ≡ slice_range (memory_bits b at xs) (part.element * b + part.from) (part.element * b + part.to)
 unfolding window_of
 part-list b at xs part order =
     ap (λ (e : ℕ). slice_range (memory_bits b at xs) (part.element * b + part.from) e) (let end : part.element * b + part.from + (part.to - part.from) ≡ part.element * b + part.to = omega arith in end)
+
+pub part-read : {b : ℕ} (at : ℕ → ℕ → ℕ) {xs : List ℕ} {part : Part} → HasPart b xs part → slice_range (element_bits b at (slice_index xs part.element)) part.from part.to ≡ list_in b at xs (part_window b part)
+part-read {b} at {xs} {part} has = part-range b at xs part.element part.from part.to has.element has.bound ∙ sym (part-list b at xs part has.order)
+
+pub part-ones : {b : ℕ} (at : ℕ → ℕ → ℕ) {xs : List ℕ} {part : Part} → Permutes b (at b) → HasPart b xs part → count_ones (bit_and (slice_index xs part.element) (mask_of (at b) part.from part.to)) ≡ count_by (λ (bit : Bool). bit) (list_in b at xs (part_window b part))
+part-ones {b} at {xs} {part} p has =
+    part-count b at p xs part.element part.from part.to has.element has.order has.bound
+    ∙ ap (λ (l : List Bool). count_by (λ (bit : Bool). bit) l) (sym (part-list b at xs part has.order))
 
 pub part-filled : {b : ℕ} {at : ℕ → ℕ → ℕ} → IsWidth b → Permutes b (at b) → (xs : List ℕ) (part : Part) (bit : Bool) → HasPart b xs part
     → Writes b at xs (slice_set xs part.element (put_mask b (slice_index xs part.element) (mask_of (at b) part.from part.to) bit)) (part_window b part) (replicate (part.to - part.from) bit)
@@ -107,11 +115,11 @@ whole_part b from to at some p bound all =
     let last : to ≡ b = omega arith in
     rw (first, last) (mask_of-whole b at p)
 
-pub masked-whole : {b v : ℕ} (from to : ℕ) (at : ℕ → ℕ) → 0 < b → Permutes b at → v < 2 ^ b → to ≤ b → to - from ≡ b → v ≡ bit_and v (mask_of at from to)
-masked-whole {b} {v} from to at some p small bound all = rw (← whole_part b from to at some p bound all) (sym (and_mask v b ∙ mod-eq_of_lt small))
+pub masked-whole : {b v : ℕ} (from : ℕ) {to : ℕ} {at : ℕ → ℕ} → 0 < b → Permutes b at → v < 2 ^ b → to ≤ b → to - from ≡ b → v ≡ bit_and v (mask_of at from to)
+masked-whole {b} {v} from {to} {at} some p small bound all = rw (← whole_part b from to at some p bound all) (sym (and_mask v b ∙ mod-eq_of_lt small))
 
-pub flipped-whole : (b v from to : ℕ) (at : ℕ → ℕ) → 0 < b → Permutes b at → v < 2 ^ b → to ≤ b → to - from ≡ b → 2 ^ b - 1 - v ≡ bit_xor v (mask_of at from to)
-flipped-whole b v from to at some p small bound all =
+pub flipped-whole : {b v : ℕ} (from : ℕ) {to : ℕ} {at : ℕ → ℕ} → 0 < b → Permutes b at → v < 2 ^ b → to ≤ b → to - from ≡ b → 2 ^ b - 1 - v ≡ bit_xor v (mask_of at from to)
+flipped-whole {b} {v} from {to} {at} some p small bound all =
     rw (← whole_part b from to at some p bound all)
     (let power = pow_pos b in
     same_from_bits_below b _ _ (omega arith) (xor_lt b v (2 ^ b - 1) small (omega arith)) (λ k below.

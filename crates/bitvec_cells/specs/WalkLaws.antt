@@ -1,7 +1,8 @@
 -- Which elements a walk over a window takes, from its front, a part of one element at a time.
-use Rattle.std.specs.Prelude.{◌≡◌, ℕ, ◌+◌, ◌-◌, ◌*◌, ◌/◌, ◌%◌, ◌<◌, ◌≤◌, min, ◌==◌, if◌then◌else◌, Bool, true, false, List, [], ◌++◌, length, Option, Some, None, refl, zero, suc}
+use Rattle.std.specs.Prelude.{◌≡◌, ℕ, ◌+◌, ◌-◌, ◌*◌, ◌/◌, ◌%◌, ◌<◌, ◌≤◌, min, Bool, List, [], ◌++◌, length, Option, Some, None, refl, zero, suc}
 use Rattle.std.proofs.Common.{arith, ◌∙◌, ap, ⊎_elim, eqb}
 use Rattle.std.proofs.lemmas.Bool.{cases_lt, cond-true, cond-false, eq-eqb, ne_eqb}
+use Rattle.std.proofs.lemmas.Bool.Decides.{nat_tests}
 use Rattle.std.proofs.lemmas.Nat.{div-mul-add, div-add-mod', mod_below, mod-mul-add, le-div}
 use Rattle.bitvec_base.specs.declared.window.Window.{Window}
 use Rattle.bitvec_base.specs.Lists.{first_place, last_place}
@@ -192,20 +193,14 @@ length-passed {b} at {xs} {window} {rest} has walk =
     let high = has.within.len in
     length-list {b = b} at {xs = xs} {window = passed window rest} (record { fits = has.fits; within = record { start = has.within.start; len = omega arith } })
 
-at_most_one : (whole : Bool) → (if whole then 0 else 1) ≤ 1
-at_most_one true = omega arith
-at_most_one false = omega arith
-
 edge_loads-first : (window rest : Window) → rest.start ≡ window.start → edge_loads window rest ≡ 0
 edge_loads-first window rest first = cond-true _ _ _ (eq-eqb rest.start window.start first)
 
 edge_loads-middle : (window rest : Window) → window.start < rest.start → 0 < rest.len → edge_loads window rest ≡ 1
-edge_loads-middle window rest later some =
-    cond-false _ _ _ (ne_eqb rest.start window.start (λ e. omega arith)) ∙ cond-false _ _ _ (ne_eqb rest.len 0 (λ e. omega arith))
+edge_loads-middle window rest later some = grind (arith, nat_tests)
 
 edge_loads-last : (window rest : Window) → window.start < rest.start → rest.len ≤ 0 → edge_loads window rest ≡ 2
-edge_loads-last window rest later none =
-    cond-false _ _ _ (ne_eqb rest.start window.start (λ e. omega arith)) ∙ cond-true _ _ _ (eq-eqb rest.len 0 (omega arith))
+edge_loads-last window rest later none = grind (arith, nat_tests)
 
 -- a fill loads the edges alone: each part but the first and the last is a whole element
 pub edge_loads-next : {b : ℕ} {window rest : Window} (t : ℕ) → 0 < b → 0 < rest.len → t ≡ (first_part_of b rest).to - (first_part_of b rest).from → Walked b window rest
@@ -215,7 +210,7 @@ edge_loads-next {b} {window} {rest} t some more step walk =
     let head = mod_below rest.start b some in
     let part = first_part_of b rest in
     let next = window_after t rest in
-    let small = at_most_one (part.to - part.from == b) in
+    let small : part_loads b part ≤ 1 = grind (arith, nat_tests) in
     ⊎_elim
     (λ (later : window.start < rest.start).
     let edge = walk.aligned later more in

@@ -4,7 +4,7 @@ ghost use Rattle.std.specs.Simd.Lanes.{digits_l};
 ghost use Rattle.bitvec_base.specs.Memory.{FitsMaxBits, HasWindow};
 ghost use Rattle.bitvec_base.specs.Window.{write_at};
 
-use bitvec_base::{MAX_BITS, Window};
+use bitvec_base::{MAX_BITS, Window, elements_of};
 use bitvec_store::BitStore;
 
 /// A memory that can be read, an element at a time.
@@ -51,11 +51,10 @@ pub trait CellsRead {
         ensures stores { stores self.new ≡ stores self.old }
     {
         let _bounds_indices = self.len();
-        let bits = Self::Elem::BITS;
         let mut word = 0;
-        for step in 0..64 / bits as usize {
+        for step in 0..elements_of::<Self::Elem>(64) {
             let element = self.load(first + step).to_u128() as u64;
-            word += element << (step as u32 * bits);
+            word += element << bits_before::<Self::Elem>(step);
         }
         word
     }
@@ -84,13 +83,23 @@ pub trait Cells: CellsRead {
         ensures stores { Self.stores self.new ≡ Self.stores self.old + 64 / Self.Elem.BITS }
     {
         let _bounds_indices = self.len();
-        let bits = Self::Elem::BITS;
-        for step in 0..64 / bits as usize {
-            let shifted = word >> (step as u32 * bits);
+        for step in 0..elements_of::<Self::Elem>(64) {
+            let shifted = word >> bits_before::<Self::Elem>(step);
             let digit = (shifted as u128) & Self::Elem::ALL.to_u128();
             self.store(first + step, Self::Elem::from_u128(digit));
         }
     }
+}
+
+/// How many bits of a word are lower than those of an element with `count` others before it. Condition: a word holds
+/// more elements than those.
+#[inline(always)]
+fn bits_before<T: BitStore>(count: usize) -> u32
+    requires { count < 64 / T.BITS }
+    ensures value { result ≡ count * T.BITS }
+    ensures bound { result < 64 }
+{
+    count as u32 * T::BITS
 }
 
 /// Whether a memory has at most `MAX_BITS` bits.

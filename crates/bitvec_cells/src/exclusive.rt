@@ -6,6 +6,7 @@ ghost use Rattle.bitvec_cells.specs.Accessors.{exclusive_numbers, exclusive_borr
 use crate::counts::Counts;
 use crate::shared::word_of;
 use crate::{Cells, CellsRead};
+use bitvec_base::elements_of;
 use bitvec_store::BitStore;
 
 /// The accessor of an exclusive slice, which holds the accessor's list once it ends. It is as
@@ -78,7 +79,7 @@ impl<'a, T: BitStore> Cells for Exclusive<'a, T> {
 
     #[inline(always)]
     fn store_word(&mut self, first: usize, word: u64) {
-        let count = 64 / T::BITS as usize;
+        let count = elements_of::<T>(64);
         self.counts = self.counts.stored(count);
         T::store_word(&mut self.cells[first..first + count], word);
     }

@@ -4,12 +4,12 @@ use Rattle.bitvec_cells.proofs.find.first_in_element.Goals as goal
 
 pub returns-in_err-found : goal.returns-in_err-found
 returns-in_err-found g c =
-    c.from_residual.ensures ∙ first-sought_none _ _ _ _ _ _ c.args.want c.requires.bound c.sought.ensures c.in_err-found.ensures
+    c.from_residual.ensures ∙ first-sought_none c.requires.bound c.sought.ensures c.in_err-found.ensures
 
 pub overflow_sub-result : goal.overflow_sub-result
 overflow_sub-result g c =
-    let from = first-sought_from _ _ _ _ _ _ c.args.want c.requires.bound c.sought.ensures _ c.in_ok-found.ensures in
+    let from = first-sought_from c.requires.bound c.sought.ensures c.in_ok-found.ensures in
     omega arith
 
 pub returns : goal.returns
-returns g c = first-sought _ _ _ _ _ _ c.args.want c.requires.bound c.sought.ensures _ c.in_ok-found.ensures
+returns g c = first-sought c.requires.bound c.sought.ensures c.in_ok-found.ensures

@@ -6,4 +6,4 @@ use Rattle.bitvec_cells.proofs.part.flipped.Goals as goal
 pub returns-then-len-BITS : goal.returns-then-len-BITS
 returns-then-len-BITS g c =
     let width = g.met.T.BitStore.width_law in
-    c.not.ensures ∙ flipped-whole _ _ _ _ _ (width_some _ width) (g.met.O.BitOrder.permutes _ width) c.in_range.ensures c.requires.bound (sym c.len.ensures ∙ c.if-len-BITS.true ∙ c.BITS.ensures)
+    c.not.ensures ∙ flipped-whole _ (width_some _ width) (g.met.O.BitOrder.permutes _ width) c.in_range.ensures c.requires.bound (sym c.len.ensures ∙ c.if-len-BITS.true ∙ c.BITS.ensures)

@@ -6,4 +6,4 @@ use Rattle.bitvec_cells.proofs.part.masked.Goals as goal
 pub returns-then-len-BITS : goal.returns-then-len-BITS
 returns-then-len-BITS g c =
     let width = g.met.T.BitStore.width_law in
-    masked-whole _ _ _ (width_some _ width) (g.met.O.BitOrder.permutes _ width) c.in_range.ensures c.requires.bound (sym c.len.ensures ∙ c.if-len-BITS.true ∙ c.BITS.ensures)
+    masked-whole _ (width_some _ width) (g.met.O.BitOrder.permutes _ width) c.in_range.ensures c.requires.bound (sym c.len.ensures ∙ c.if-len-BITS.true ∙ c.BITS.ensures)

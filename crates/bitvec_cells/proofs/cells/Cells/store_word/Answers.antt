@@ -21,7 +21,6 @@ written b n word first xs inside = let long = length-digits (2 ^ b) n word in le
 
 pub store-requires : goal.store-requires
 store-requires g c =
-    let more = rw c.BITS-bits.ensures at c.loop-step-test.true in
     let xs = g.Self.CellsRead.numbers c.args.self.now in
     let inside : c.args.first + c.loop-step.step < length xs = omega arith in
     rw (c.loop-step.invariant.numbers, written g.Self.Elem.BitStore.BITS c.loop-step.step c.args.word c.args.first xs inside) inside
@@ -31,12 +30,11 @@ loop-step-preserved g c =
     let b = g.Self.Elem.BitStore.BITS in
     let step = c.loop-step.step in
     let xs = g.Self.CellsRead.numbers c.args.self.now in
-    let more = rw c.BITS-bits.ensures at c.loop-step-test.true in
     let inside : c.args.first + step < length xs = omega arith in
     let ds = digits_l (2 ^ b) step c.args.word in
     let long = length-digits (2 ^ b) step c.args.word in
     let all = written b step c.args.word c.args.first xs inside in
-    let digit = rw (c.BITS-bits.ensures, c.to_u128.ensures.number, c.ALL.ensures, g.met.Self.Elem.BitStore.all_law, and_mask) at c.from_u128.ensures in
+    let digit = rw (c.bits_before.ensures.value, c.to_u128.ensures.number, c.ALL.ensures, g.met.Self.Elem.BitStore.all_law, and_mask) at c.from_u128.ensures in
     let y = g.Self.Elem.BitStore.value c.from_u128.result in
     record {
       numbers =

@@ -12,8 +12,8 @@ returns-clause-numbers g c =
     let xs = c.args.self.now.cells.now in
     let ys = c.store_word.new.elements in
     let mapped = length-map xs value in
-    let count : c.args.first + 64 / c.BITS.result - c.args.first ≡ 64 / b = rw c.BITS.ensures (omega arith) in
-    let part = length-slice_range xs c.args.first (c.args.first + 64 / c.BITS.result) (omega arith) in
+    let count : c.args.first + c.elements_of-count.result - c.args.first ≡ 64 / b = omega arith in
+    let part = length-slice_range xs c.args.first (c.args.first + c.elements_of-count.result) (omega arith) in
     let long = c.store_word.auto.elements ∙ part in
-    part-numbers value c.args.first (c.args.first + 64 / c.BITS.result - c.args.first) xs ys long
+    part-numbers value c.args.first (c.args.first + c.elements_of-count.result - c.args.first) xs ys long
     ∙ ap (write_at (map value xs) c.args.first) (ap (map value) (sym (take_all (64 / b) ys (omega arith))) ∙ c.store_word.ensures.digits)
