@@ -170,7 +170,14 @@ class Package:
         for item in items:
             self.gate(item, gated)
         folder.mkdir(parents=True, exist_ok=True)
-        (folder / "mod.rs").write_text(self.finished(self.eraser(crate, file), items) + self.passed([it.name for it in items if it.kind == "mod" and it.is_public]))
+        public = [it.name for it in items if it.kind == "mod" and it.is_public]
+        (folder / "mod.rs").write_text(self.finished(self.eraser(crate, file), items) + self.exported_macros(files) + self.passed(public))
+
+    @staticmethod
+    def exported_macros(files):
+        """Passes on the macros that modules of a crate export, as `#[macro_export]` does."""
+        return "".join(f"\npub(crate) use {path.stem}::{item.name};\n" for path, (_, items) in files.items() if path != pathlib.Path("lib.rt")
+                       for item in items if item.kind == "macro_rules" and item.has_attribute("macro_export"))
 
     def eraser(self, crate, file):
         eraser = Eraser(file, self.paths[crate], self.paths, Tester(self.known), self.contracts)
