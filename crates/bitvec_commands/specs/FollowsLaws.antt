@@ -11,11 +11,11 @@ use Rattle.bitvec_commands.specs.declared.command.Reply.{Reply}
 use Rattle.bitvec_commands.specs.Follows.{Answers, Follows, window_inside}
 use Rattle.bitvec_commands.specs.Rows.{CommandRow, on_range}
 
-module _ {E C : Type 0} (access : Access C E) where
+module _ {E C : Type 0} {access : Access C E} {b : ℕ} {at : ℕ → ℕ → ℕ} {words : Bool} {row : CommandRow} {window : Window} where
   -- who answers follows
-  pub Answers-follow : (b : ℕ) (at : ℕ → ℕ → ℕ) (words : Bool) (row : CommandRow) (window : Window) (old new : C) (result : Reply) → HasWindow b (access.numbers old) window
+  pub Answers-follow : {old new : C} {result : Reply} → HasWindow b (access.numbers old) window
       → Answers access b at words row window old new result → Follows access b at words row window old new result
-  Answers-follow b at words row window old new result has answers =
+  Answers-follow {old} {new} {result} has answers =
       let stores = answers.reads.stores in
       record {
         reply = answers.reply;
@@ -25,9 +25,9 @@ module _ {E C : Type 0} (access : Access C E) where
         cost = record { borrow = answers.reads.borrow; loads = answers.reads.loads; stores = omega arith };
       }
 
-  pub Follows-range : (b : ℕ) (at : ℕ → ℕ → ℕ) (words : Bool) (row : CommandRow) (window : Window) (from to : ℕ) (old new : C) (result : Reply) → HasWindow b (access.numbers old) window → from ≤ to → to ≤ window.len
+  pub Follows-range : (from to : ℕ) {old new : C} {result : Reply} → HasWindow b (access.numbers old) window → from ≤ to → to ≤ window.len
       → Follows access b at words row (window_range window from to) old new result → Follows access b at words (on_range from to row) window old new result
-  Follows-range b at words row window from to old new result has order bound part =
+  Follows-range from to {old} {new} {result} has order bound part =
       let list = list_in b at (access.numbers old) window in
       let same = list-range at from to has order bound in
       record {

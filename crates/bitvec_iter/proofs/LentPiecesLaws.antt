@@ -23,19 +23,19 @@ module _ {T O C : Type 0} {t : Store T} {o : Order O} {c : Cuts C} (p : PiecesMu
   same-walk inside inside' bounded bounded' numbered numbered' =
       ap (λ i. at i bounded numbered) (le_prop inside inside') ∙ ap (λ b. at inside' b numbered) (le_prop bounded bounded') ∙ ap (λ n. at inside' bounded' n) (le_prop numbered numbered')
 
-  pub same-with : (inside inside' : p.head + p.len ≤ t.BITS * length p.elements.now) (bounded bounded' : t.BITS * length p.elements.now ≤ max_bits) (numbered numbered' : back ≤ c.pieces p.cutting p.len) (xs : List T)
+  same-with : (inside inside' : p.head + p.len ≤ t.BITS * length p.elements.now) (bounded bounded' : t.BITS * length p.elements.now ≤ max_bits) (numbered numbered' : back ≤ c.pieces p.cutting p.len) (xs : List T)
       → with_elements (at inside bounded numbered) xs ≡ with_elements (at inside' bounded' numbered') xs
   same-with inside inside' bounded bounded' numbered numbered' xs = ap (λ q. with_elements q xs) (same-walk inside inside' bounded bounded' numbered numbered')
 
   -- the elements were lent that the bits of a range touch
-  pub same-lent : (lent range : Range ℕ) → lent ≡ range → (inside inside' : p.head + p.len ≤ t.BITS * length p.elements.now) (bounded bounded' : t.BITS * length p.elements.now ≤ max_bits) (numbered numbered' : back ≤ c.pieces p.cutting p.len) (ws : List T)
+  pub same-lent : {lent range : Range ℕ} → lent ≡ range → (inside inside' : p.head + p.len ≤ t.BITS * length p.elements.now) (bounded bounded' : t.BITS * length p.elements.now ≤ max_bits) {numbered numbered' : back ≤ c.pieces p.cutting p.len} (ws : List T)
       → with_elements (at inside bounded numbered) (with_range p.elements.now (first_touched t.BITS (p.head + lent.start)) (end_touched t.BITS (p.head + lent.end)) ws) ≡ with_elements (at inside' bounded' numbered') (with_range p.elements.now (first_touched t.BITS (p.head + range.start)) (end_touched t.BITS (p.head + range.end)) ws)
-  same-lent lent range is inside inside' bounded bounded' numbered numbered' ws = rw is (same-with inside inside' bounded bounded' numbered numbered' (with_range p.elements.now (first_touched t.BITS (p.head + range.start)) (end_touched t.BITS (p.head + range.end)) ws))
+  same-lent {lent} {range} is inside inside' bounded bounded' {numbered} {numbered'} ws = rw is (same-with inside inside' bounded bounded' numbered numbered' (with_range p.elements.now (first_touched t.BITS (p.head + range.start)) (end_touched t.BITS (p.head + range.end)) ws))
 
 module _ {T O C : Type 0} {t : Store T} {o : Order O} {c : Cuts C} (p : PiecesMut T O C t o c) {front front' back back' : ℕ} (taken : Bool) where
-  pub same-at : front ≡ front' → back ≡ back' → (inside inside' : p.head + p.len ≤ t.BITS * length p.elements.now) (bounded bounded' : t.BITS * length p.elements.now ≤ max_bits) (numbered : back ≤ c.pieces p.cutting p.len) (numbered' : back' ≤ c.pieces p.cutting p.len)
+  pub same-at : front ≡ front' → back ≡ back' → {inside inside' : p.head + p.len ≤ t.BITS * length p.elements.now} {bounded bounded' : t.BITS * length p.elements.now ≤ max_bits} {numbered : back ≤ c.pieces p.cutting p.len} {numbered' : back' ≤ c.pieces p.cutting p.len}
       → at p front back taken inside bounded numbered ≡ at p front' back' taken inside' bounded' numbered'
-  same-at first last inside inside' bounded bounded' numbered numbered' =
+  same-at first last {inside} {inside'} {bounded} {bounded'} {numbered} {numbered'} =
       subst (λ (b : ℕ). (n : b ≤ c.pieces p.cutting p.len) → at p front back taken inside bounded numbered ≡ at p front' b taken inside' bounded' n) last
       (λ n. same-walk p front back taken inside inside' bounded bounded' numbered n ∙ ap (λ (f : ℕ). at p f back taken inside' bounded' n) first) numbered'
 

@@ -49,7 +49,7 @@ module _ {T O : Type 0} {t : Store T} {o : Order O} (view part : BitSlice T O t 
       is.start is.len
 
 -- the elements from `start` up to `end` are those that the bits from the index `from` up to `to` touch
-module _ {X : Type 0} {b : ℕ} (xs : List X) (head len from to start end : ℕ) (width : IsWidth b) (inside : head + len ≤ b * length xs) (order : from ≤ to) (bound : to ≤ len) (first : start ≡ first_touched b (head + from)) (last : end ≡ end_touched b (head + to)) where
+module _ {X : Type 0} {b : ℕ} (xs : List X) (head len from to : ℕ) {start end : ℕ} (width : IsWidth b) (inside : head + len ≤ b * length xs) (order : from ≤ to) (bound : to ≤ len) (first : start ≡ first_touched b (head + from)) (last : end ≡ end_touched b (head + to)) where
   pub part-end : end ≤ length xs
   part-end = rw last (touched_end b xs head len from to (width_some b width) inside order bound)
 
@@ -57,7 +57,7 @@ module _ {X : Type 0} {b : ℕ} (xs : List X) (head len from to start end : ℕ)
   pub part-left : {Y : Type 0} (end_as : List X → Y) (ws : List X) → end_as (with_range xs start end ws) ≡ end_as (with_range xs (first_touched b (head + from)) (end_touched b (head + to)) ws)
   part-left end_as ws = rw (first, last) refl
 
-  module _ (w : ℕ) (ys : List X) (are : ys ≡ slice_range xs start end) (is : w ≡ b) where
+  module _ {w : ℕ} {ys : List X} (are : ys ≡ slice_range xs start end) (is : w ≡ b) where
     pub part-holds : (head + from) % w + (to - from) ≤ b * length ys
     part-holds = rw (is, are, first, last) (touched_holds b xs head len from to (width_some b width) inside order bound)
 
@@ -75,7 +75,7 @@ tested : (m n : ℕ) → (nat_lt m n ≡ true) ↔ (m < n)
 tested m n = ((λ is. grind (arith, nat_tests)), λ is. grind (arith, nat_tests))
 
 -- a reference to a bit, which is given exactly where one was lent
-module _ {T O : Type 0} {t : Store T} {o : Order O} (view : Seen T) (index m n : ℕ) (has : Bool) (part : BitSliceMut T O t o) where
+module _ {T O : Type 0} {t : Store T} {o : Order O} {view : Seen T} {index m n : ℕ} {has : Bool} (part : BitSliceMut T O t o) where
   pub bit-given : (r : Option (BitRefMut T O t o)) → has ≡ nat_lt m n → (IsTrue has → IsRangeOf t.BITS view index (index + 1) (seen_mut part)) → (IsSome r ↔ IsTrue has) → IfSome r (λ bit. IsBitOfView part bit) → IsGiven (m < n) (WritesBitOf view index) r
   bit-given None left is some bit = record { some = ((λ s. (tested m n).0 (sym left ∙ some.0 s)), λ l. some.1 (left ∙ (tested m n).1 l)); gives = tt }
   bit-given (Some r) left is some bit = record { some = ((λ s. (tested m n).0 (sym left ∙ some.0 s)), λ l. some.1 (left ∙ (tested m n).1 l)); gives = bit-of_part view index part r (is (some.0 refl)) bit }

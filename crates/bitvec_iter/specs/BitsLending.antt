@@ -64,15 +64,15 @@ module _ {T O : Type 0} {t : Store T} {o : Order O} where
         ap (λ f. at f bounded numbered) (le_prop inside inside') ∙ ap (λ f. at inside' f numbered) (le_prop bounded bounded') ∙ ap (λ f. at inside' bounded' f) (le_prop numbered numbered')
 
     -- A walk with other elements is told by its data, whichever proofs it has.
-    pub same-with : (inside inside' : i.head + i.len ≤ t.BITS * length i.elements.now) (bounded bounded' : t.BITS * length i.elements.now ≤ max_bits) (numbered numbered' : back ≤ i.len) (xs : List T)
+    pub same-with : (inside inside' : i.head + i.len ≤ t.BITS * length i.elements.now) (bounded bounded' : t.BITS * length i.elements.now ≤ max_bits) {numbered numbered' : back ≤ i.len} (xs : List T)
         → with_elements (at inside bounded numbered) xs ≡ with_elements (at inside' bounded' numbered') xs
-    same-with inside inside' bounded bounded' numbered numbered' xs = ap (λ q. with_elements q xs) (same-walk inside inside' bounded bounded' numbered numbered')
+    same-with inside inside' bounded bounded' {numbered} {numbered'} xs = ap (λ q. with_elements q xs) (same-walk inside inside' bounded bounded' numbered numbered')
 
   module _ (i : IterMut T O t o) {front front' back back' : ℕ} where
     -- Walks with the same ends are equal, whichever proofs they have.
-    pub same-at : front ≡ front' → back ≡ back' → (inside inside' : i.head + i.len ≤ t.BITS * length i.elements.now) (bounded bounded' : t.BITS * length i.elements.now ≤ max_bits) (numbered : back ≤ i.len) (numbered' : back' ≤ i.len)
+    pub same-at : front ≡ front' → back ≡ back' → {inside inside' : i.head + i.len ≤ t.BITS * length i.elements.now} {bounded bounded' : t.BITS * length i.elements.now ≤ max_bits} {numbered : back ≤ i.len} {numbered' : back' ≤ i.len}
         → at i front back inside bounded numbered ≡ at i front' back' inside' bounded' numbered'
-    same-at first last inside inside' bounded bounded' numbered numbered' =
+    same-at first last {inside} {inside'} {bounded} {bounded'} {numbered} {numbered'} =
         subst (λ (b : ℕ). (n : b ≤ i.len) → at i front back inside bounded numbered ≡ at i front' b inside' bounded' n) last
         (λ n. same-walk i front back inside inside' bounded bounded' numbered n ∙ ap (λ (f : ℕ). at i f back inside' bounded' n) first) numbered'
 

@@ -1,7 +1,7 @@
 -- What comes of a step with numbers: it is a plain step, or is refused, or is its command on its range.
 use Rattle.std.specs.Prelude.{◌≡◌, ℕ, ◌+◌, ◌-◌, Bool, true, false, Some, None, List, refl}
 use Rattle.std.proofs.Common.{sym, ◌∙◌, ap, subst, ⊎_elim}
-use Rattle.std.proofs.lemmas.Bool.{and_from, cases_Bool, le-leb}
+use Rattle.std.proofs.lemmas.Bool.{cases_Bool, le-leb}
 use Rattle.bitvec_commands.specs.declared.command.Op.{Op}
 use Rattle.bitvec_commands.specs.declared.command.Refusal.{Refusal}
 use Rattle.bitvec_commands.specs.Rows.{CommandRow, on_range, or_else, range_lies, refused, unless}
@@ -55,7 +55,7 @@ module _ (high : Bool) (b s : ℕ) (right : List Bool) (n : ℕ) (step : FieldSt
       → field_outcome high b s right n step ≡ on_range step.from step.to (field_row high b (s + step.from) right (step.to - step.from) step.op)
   transfer-does is told fits =
       outcome-is (field_step_row high b s right n step) None (row-refusal is ∙ told)
-      ∙ row-inside (and_from _ _ (le-leb _ _ fits.order) (le-leb _ _ fits.bound))
+      ∙ row-inside (rw (le-leb _ _ fits.order, le-leb _ _ fits.bound) refl)
 
 -- a plain step is that step
 pub plain-is : (high : Bool) (b s : ℕ) (right : List Bool) (n : ℕ) (step : FieldStep) (op : Op) → step.op ≡ Plain op → field_outcome high b s right n step ≡ step_outcome right n (record { from = step.from; to = step.to; op = op })

@@ -61,9 +61,9 @@ module _ {E C S : Type 0} (access : Access C E) (row_of : ℕ → S → CommandR
 -- the same with what it took of the two memories, after no step, one step more, and all of them
 module _ {E F C D S : Type 0} (access : Access C E) (beside : Access D F) (row_of : ℕ → S → CommandRow) where
   -- A run before its first step has made no replies and changed nothing.
-  pub RunsBy-start : (b : ℕ) (at : ℕ → ℕ → ℕ) (words : Bool) (window : Window) (steps : List S) (old : C) (right : D) (made : List Reply) → HasWindow b (access.numbers old) window → made ≡ []
+  pub RunsBy-start : {b : ℕ} {at : ℕ → ℕ → ℕ} {words : Bool} {window : Window} (steps : List S) {old : C} {right : D} {made : List Reply} → HasWindow b (access.numbers old) window → made ≡ []
       → RunsBy access beside row_of b at words window (take 0 steps) old old right right made
-  RunsBy-start b at words window steps old right made has none = record {
+  RunsBy-start {b} {at} {words} {window} steps {old} {right} {made} has none = record {
     replies = none;
     writes = Writes-nothing at _ has refl;
     cost = record { borrow = refl; loads = omega arith; stores = omega arith };
@@ -71,12 +71,12 @@ module _ {E F C D S : Type 0} (access : Access C E) (beside : Access D F) (row_o
   }
 
   -- A run and one step more that followed its row are a run of one step more.
-  pub RunsBy-next : (b : ℕ) (at : ℕ → ℕ → ℕ) (words : Bool) (window : Window) (steps : List S) (i : ℕ) (d : S) (old now new : C) (right_old right_now right_new : D) (made : List Reply) (result : Reply)
+  pub RunsBy-next : {b : ℕ} {at : ℕ → ℕ → ℕ} {words : Bool} {window : Window} (steps : List S) (i : ℕ) (d : S) {old now new : C} {right_old right_now right_new : D} {made : List Reply} {result : Reply}
       → HasWindow b (access.numbers old) window → i < length steps
       → RunsBy access beside row_of b at words window (take i steps) old now right_old right_now made
       → FollowsBoth access beside b at words (row_of window.len (slice_index_or steps i d)) window now new right_now right_new result
       → RunsBy access beside row_of b at words window (take (i + 1) steps) old new right_old right_new (made ++ (result ∷ []))
-  RunsBy-next b at words window steps i d old now new right_old right_now right_new made result has below before did =
+  RunsBy-next {b} {at} {words} {window} steps i d {old} {now} {new} {right_old} {right_now} {right_new} {made} {result} has below before did =
       let cost : S → Cost = λ step. (row_of window.len step).cost (place_of b words window) in
       let next = Ran-next access row_of b at words _ steps i d window old now new made result has below (record { replies = before.replies; writes = before.writes }) did.left in
       record {
@@ -87,18 +87,18 @@ module _ {E F C D S : Type 0} (access : Access C E) (beside : Access D F) (row_o
       }
 
   -- A run of at least all steps is a run of all.
-  pub RunsBy-all : (b : ℕ) (at : ℕ → ℕ → ℕ) (words : Bool) (window : Window) (steps : List S) (i : ℕ) (old new : C) (right_old right_new : D) (made : List Reply) → length steps ≤ i
+  pub RunsBy-all : {b : ℕ} {at : ℕ → ℕ → ℕ} {words : Bool} {window : Window} (steps : List S) (i : ℕ) {old new : C} {right_old right_new : D} {made : List Reply} → length steps ≤ i
       → RunsBy access beside row_of b at words window (take i steps) old new right_old right_new made → RunsBy access beside row_of b at words window steps old new right_old right_new made
-  RunsBy-all b at words window steps i old new right_old right_new made over ran =
+  RunsBy-all {b} {at} {words} {window} steps i {old} {new} {right_old} {right_new} {made} over ran =
       subst (λ (done : List S). RunsBy access beside row_of b at words window done old new right_old right_new made) (take_all i steps over) ran
 
 -- a run that was made, and one that wasn't
-module _ {E F C D S A : Type 0} (access : Access C E) (beside : Access D F) (row_of : List Bool → ℕ → S → CommandRow) (b : ℕ) (at : ℕ → ℕ → ℕ) (words : Bool) (window : Window) (steps : List S) where
+module _ {E F C D S A : Type 0} {access : Access C E} {beside : Access D F} {row_of : List Bool → ℕ → S → CommandRow} {b : ℕ} {at : ℕ → ℕ → ℕ} {words : Bool} {window : Window} {steps : List S} where
   -- A run that could be made, and did what its rows say, meets what a run promises.
-  pub RunsOrFails-ran : (old new : C) (right_old right_new : D) (replies : Vec Reply A) → CanRun b (access.numbers old) window (beside.numbers right_old)
+  pub RunsOrFails-ran : {old new : C} {right_old right_new : D} {replies : Vec Reply A} → CanRun b (access.numbers old) window (beside.numbers right_old)
       → RunsBy access beside (row_of (memory_bits b at (beside.numbers right_old))) b at words window steps old new right_old right_new (vec_items replies)
       → RunsOrFails access beside row_of b at words window steps old new right_old right_new (Ok replies)
-  RunsOrFails-ran old new right_old right_new replies can ran = record {
+  RunsOrFails-ran {old} {new} {right_old} {right_new} {replies} can ran = record {
     runs = ran;
     made = can;
     fails = tt;
@@ -107,9 +107,9 @@ module _ {E F C D S A : Type 0} (access : Access C E) (beside : Access D F) (row
   }
 
   -- A run that failed as it should, and did nothing before, meets it too.
-  pub RunsOrFails-failed : (old : C) (right : D) (why : RunError) → FailsRun b (access.numbers old) window (beside.numbers right) (length steps) why
+  pub RunsOrFails-failed : {old : C} {right : D} (why : RunError) → FailsRun b (access.numbers old) window (beside.numbers right) (length steps) why
       → RunsOrFails {A = A} access beside row_of b at words window steps old old right right (Err why)
-  RunsOrFails-failed old right why fails = record {
+  RunsOrFails-failed {old} {right} why fails = record {
     runs = tt;
     made = tt;
     fails = fails;

@@ -4,7 +4,7 @@ use Rattle.bitvec_commands.proofs.carrying.carry_out.Goals as goal
 
 pub returns-in-Get : goal.returns-in-Get
 returns-in-Get g c = record {
-  left = Answers-follow g.C.CellsRead _ _ _ _ c.args.target _ _ _ c.requires.window (c.query.ensures _);
+  left = Answers-follow c.requires.window (c.query.ensures _);
   right = record { numbers = refl; borrow = refl; loads = omega arith; stores = refl };
 }
 

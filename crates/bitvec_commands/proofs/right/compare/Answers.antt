@@ -9,7 +9,7 @@ returns-in-Eq g c =
     let same = list-inside g.O.BitOrder.at c.requires.right_window fits in
     let answered = rw (c.inside.ensures, same) at c.block_eq.ensures in
     rw c.in-Eq.is
-    (record { left = Answers-follow g.C.CellsRead _ _ _ _ c.args.target _ _ _ c.requires.window (record { reply = ap Bit answered.value; list = refl; reads = answered.reads }); right = answered.right })
+    (record { left = Answers-follow c.requires.window (record { reply = ap Bit answered.value; list = refl; reads = answered.reads }); right = answered.right })
 
 pub returns-in-Cmp : goal.returns-in-Cmp
 returns-in-Cmp g c =
@@ -17,7 +17,7 @@ returns-in-Cmp g c =
     let same = list-inside g.O.BitOrder.at c.requires.right_window fits in
     let answered = rw (c.inside-other.ensures, same) at c.compare.ensures in
     rw c.in-Cmp.is
-    (record { left = Answers-follow g.C.CellsRead _ _ _ _ c.args.target _ _ _ c.requires.window (record { reply = ap Order answered.value; list = refl; reads = answered.reads }); right = answered.right })
+    (record { left = Answers-follow c.requires.window (record { reply = ap Order answered.value; list = refl; reads = answered.reads }); right = answered.right })
 
 pub returns-in-StartsWith : goal.returns-in-StartsWith
 returns-in-StartsWith g c =
@@ -25,7 +25,7 @@ returns-in-StartsWith g c =
     let same = list-inside g.O.BitOrder.at c.requires.right_window fits in
     let answered = rw (c.inside-in-StartsWith.ensures, same) at c.starts_with.ensures in
     rw c.in-StartsWith.is
-    (record { left = Answers-follow g.C.CellsRead _ _ _ _ c.args.target _ _ _ c.requires.window (record { reply = ap Bit answered.value; list = refl; reads = answered.reads }); right = answered.right })
+    (record { left = Answers-follow c.requires.window (record { reply = ap Bit answered.value; list = refl; reads = answered.reads }); right = answered.right })
 
 pub returns-in-EndsWith : goal.returns-in-EndsWith
 returns-in-EndsWith g c =
@@ -33,7 +33,7 @@ returns-in-EndsWith g c =
     let same = list-inside g.O.BitOrder.at c.requires.right_window fits in
     let answered = rw (c.inside-in-EndsWith.ensures, same) at c.ends_with.ensures in
     rw c.in-EndsWith.is
-    (record { left = Answers-follow g.C.CellsRead _ _ _ _ c.args.target _ _ _ c.requires.window (record { reply = ap Bit answered.value; list = refl; reads = answered.reads }); right = answered.right })
+    (record { left = Answers-follow c.requires.window (record { reply = ap Bit answered.value; list = refl; reads = answered.reads }); right = answered.right })
 
 pub returns-in-Contains : goal.returns-in-Contains
 returns-in-Contains g c =
@@ -41,4 +41,4 @@ returns-in-Contains g c =
     let same = list-inside g.O.BitOrder.at c.requires.right_window fits in
     let answered = rw (c.inside-in-Contains.ensures, same) at c.contains.ensures in
     rw c.in-Contains.is
-    (record { left = Answers-follow g.C.CellsRead _ _ _ _ c.args.target _ _ _ c.requires.window (record { reply = ap Bit answered.value; list = refl; reads = answered.reads }); right = answered.right })
+    (record { left = Answers-follow c.requires.window (record { reply = ap Bit answered.value; list = refl; reads = answered.reads }); right = answered.right })

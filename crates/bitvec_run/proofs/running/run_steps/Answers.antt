@@ -7,7 +7,7 @@ use Rattle.bitvec_run.proofs.running.run_steps.Goals as goal
 
 pub loop-next-init : goal.loop-next-init
 loop-next-init g c = record {
-  ran = RunsBy-start g.C.CellsRead g.D.CellsRead _ _ _ _ _ c.args.steps.now _ _ _ (c.has_window.ensures.0 c.if-not-has_window.false) (search rules);
+  ran = RunsBy-start g.C.CellsRead g.D.CellsRead _ c.args.steps.now (c.has_window.ensures.0 c.if-not-has_window.false) (search rules);
   count = search rules;
   room = search rules;
 }
@@ -20,7 +20,7 @@ loop-next-preserved g c =
     let has = c.has_window.ensures.0 c.if-not-has_window.false in
     let did = rw (c.whole-source.ensures, inv.ran.right.numbers, list-whole b g.O.BitOrder.at (g.D.CellsRead.numbers c.args.right.now), c.next-item.is) at c.carry_out.ensures in
     record {
-      ran = rw c.push_reserved.ensures.items (RunsBy-next g.C.CellsRead g.D.CellsRead (g.S.RunStep.outcome b c.args.window.start right) _ _ _ _ c.args.steps.now _ _ _ _ _ _ _ _ _ _ has c.loop-next-test.true inv.ran did);
+      ran = rw c.push_reserved.ensures.items (RunsBy-next g.C.CellsRead g.D.CellsRead (g.S.RunStep.outcome b c.args.window.start right) c.args.steps.now _ _ has c.loop-next-test.true inv.ran did);
       count = search rules;
       room = search rules;
     }
@@ -30,22 +30,22 @@ whole-source-requires g c = c.fits_max_bits.ensures.0 c.if-not-fits_max_bits.fal
 
 pub returns-then-not-has_window : goal.returns-then-not-has_window
 returns-then-not-has_window g c =
-    RunsOrFails-failed g.C.CellsRead g.D.CellsRead _ _ _ _ _ _ _ _ error.Window (λ has. let none = c.if-not-has_window.ensures.1 has in cc)
+    RunsOrFails-failed error.Window (λ has. let none = c.if-not-has_window.ensures.1 has in cc)
 
 pub returns-then-not-fits_max_bits : goal.returns-then-not-fits_max_bits
 returns-then-not-fits_max_bits g c =
     let has = c.has_window.ensures.0 c.if-not-has_window.false in
-    RunsOrFails-failed g.C.CellsRead g.D.CellsRead _ _ _ _ _ _ _ _ error.Right (has, λ fits. let none = c.if-not-fits_max_bits.ensures.1 fits in cc)
+    RunsOrFails-failed error.Right (has, λ fits. let none = c.if-not-fits_max_bits.ensures.1 fits in cc)
 
 pub returns-in_default : goal.returns-in_default
 returns-in_default g c =
-    RunsOrFails-failed g.C.CellsRead g.D.CellsRead _ _ _ _ _ _ _ _ error.Memory
+    RunsOrFails-failed error.Memory
     (record { has_window = c.has_window.ensures.0 c.if-not-has_window.false; right_fits = c.fits_max_bits.ensures.0 c.if-not-fits_max_bits.false }, first_of (search rules, grind (arith, rules)))
 
 pub returns : goal.returns
 returns g c =
-    let ran = RunsBy-all g.C.CellsRead g.D.CellsRead _ _ _ _ _ c.args.steps.now _ _ _ _ _ _ c.loop-next-test.false c.loop-next.invariant.ran in
-    RunsOrFails-ran g.C.CellsRead g.D.CellsRead _ _ _ _ _ _ _ _ _ _ _
+    let ran = RunsBy-all g.C.CellsRead g.D.CellsRead _ c.args.steps.now _ c.loop-next-test.false c.loop-next.invariant.ran in
+    RunsOrFails-ran
     (record { has_window = c.has_window.ensures.0 c.if-not-has_window.false; right_fits = c.fits_max_bits.ensures.0 c.if-not-fits_max_bits.false }) ran
 
 pub carry_out-requires : goal.carry_out-requires

@@ -6,4 +6,4 @@ use Rattle.bitvec_iter.proofs.lent_bits.IterMut.lent_first.Goals as goal
 
 pub returns : goal.returns
 returns g c =
-    let i = c.args.self.now in ((sym (ap name_of c.new.ensures.piece), λ w. same-with i (i.front + 1) (i.back) _ _ _ _ _ _ _), record { writes_back = tt; lent = c.new.ensures.lent; bit = rw c.new.ensures.piece c.part_mut-piece.ensures.part })
+    let i = c.args.self.now in ((sym (ap name_of c.new.ensures.piece), λ w. same-with i (i.front + 1) (i.back) _ _ _ _ _), record { writes_back = tt; lent = c.new.ensures.lent; bit = rw c.new.ensures.piece c.part_mut-piece.ensures.part })

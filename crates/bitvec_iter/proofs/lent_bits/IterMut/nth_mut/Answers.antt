@@ -2,4 +2,4 @@ use Rattle.bitvec_iter.proofs.PartLaws.{bit-given}
 use Rattle.bitvec_iter.proofs.lent_bits.IterMut.nth_mut.Goals as goal
 
 pub returns : goal.returns
-returns g c = bit-given _ _ _ _ _ c.nth_lent.result.piece _ c.nth_lent.ensures.lent c.nth_lent.ensures.bit c.bit.ensures.some c.bit.ensures.bit
+returns g c = bit-given c.nth_lent.result.piece _ c.nth_lent.ensures.lent c.nth_lent.ensures.bit c.bit.ensures.some c.bit.ensures.bit

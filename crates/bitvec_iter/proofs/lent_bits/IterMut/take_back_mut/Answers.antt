@@ -6,4 +6,4 @@ use Rattle.bitvec_iter.proofs.lent_bits.IterMut.take_back_mut.Goals as goal
 pub returns : goal.returns
 returns g c =
     let i = c.args.self.now in
-    ((refl, λ w. same-with i i.front (i.back - 1) _ _ _ _ _ _ _), record { writes_back = tt; bit = c.bit_mut.ensures.bit })
+    ((refl, λ w. same-with i i.front (i.back - 1) _ _ _ _ _), record { writes_back = tt; bit = c.bit_mut.ensures.bit })

@@ -1,8 +1,8 @@
 use Rattle.std.proofs.Common.{ap, refl}
-use Rattle.std.proofs.Output.{has_written_append, has_written_of_eq}
 use Rattle.bitvec_domain.specs.Listing.{bits_text}
 use Rattle.bitvec_iter.specs.Halves.{mid_of, seen_halves}
 use Rattle.bitvec_iter.proofs.PartLaws.{shown-bits}
+use Rattle.bitvec_iter.proofs.Writing.{written-as, written-then}
 use Rattle.bitvec_iter.proofs.lent_halves.HalvesMut.write_halves.Goals as goal
 
 pub returns : goal.returns
@@ -13,4 +13,4 @@ returns g c = λ plain ok.
     let first = c.in_ok-fmt.ensures.writes plain refl in
     let lead = c.in_ok-write_str.ensures.writes first.plain refl in
     let second = c.fmt-2.ensures.writes lead.plain ok in
-    has_written_append _ _ _ _ _ _ (has_written_of_eq _ _ _ _ _ (ap bits_text left) first) (has_written_append _ _ _ _ _ _ lead (has_written_of_eq _ _ _ _ _ (ap bits_text right) second))
+    written-then (written-as (ap bits_text left) first) (written-then lead (written-as (ap bits_text right) second))

@@ -7,4 +7,4 @@ pub returns-clause-whole : goal.returns-clause-whole
 returns-clause-whole g c =
     let p = c.args.self.now in
     let count : c.min.result ≡ min c.args.count (p.back - p.front) = c.min.ensures ∙ ap (λ (n : ℕ). min c.args.count n) c.len.ensures in
-    same-at p p.taken (refl) (ap (λ (n : ℕ). p.back - n) count) _ _ _ _ _ _
+    same-at p p.taken (refl) (ap (λ (n : ℕ). p.back - n) count)

@@ -4,4 +4,4 @@ use Rattle.bitvec_iter.proofs.lent_pieces.PiecesMut.take_back_mut.Goals as goal
 
 pub returns : goal.returns
 returns g c =
-    let p = c.args.self.now in ((refl, same-lent p p.front (p.back - 1) p.taken _ _ c.piece-range.ensures _ _ _ _ _ _), record { writes_back = tt; piece = part-at c.piece-range.ensures c.part_mut.ensures.part })
+    let p = c.args.self.now in ((refl, same-lent p p.front (p.back - 1) p.taken c.piece-range.ensures _ _ _ _), record { writes_back = tt; piece = part-at c.piece-range.ensures c.part_mut.ensures.part })

@@ -1,6 +1,5 @@
 use Rattle.std.proofs.Common.{◌≡◌, ◌∙◌, ◌+◌, ◌-◌, ℕ, List, Bool, ap, arith, length, refl, slice_index_or, sym}
 use Rattle.std.specs.List.{join_by}
-use Rattle.std.proofs.Output.{has_written_append, has_written_of_eq}
 use Rattle.std.proofs.lemmas.List.{take_all}
 use Rattle.bitvec_cutting.specs.Cutting.{cut}
 use Rattle.bitvec_cutting.specs.WalkLaws.{walk_at, walk_length}
@@ -10,6 +9,7 @@ use Rattle.bitvec_slice.specs.Views.{seen}
 use Rattle.bitvec_iter.specs.LentPieces.{walk_of}
 use Rattle.bitvec_iter.specs.LentWalk.{lists_left}
 use Rattle.bitvec_iter.proofs.PartLaws.{shown-bits}
+use Rattle.bitvec_iter.proofs.Writing.{written-as, written-then}
 use Rattle.bitvec_iter.proofs.lent_pieces.PiecesMut.write_pieces.Goals as goal
 
 pub loop-index-preserved : goal.loop-index-preserved
@@ -22,12 +22,12 @@ loop-index-preserved g c = λ plain.
     let here = piece (w.front + index) in
     let is : slice_index_or all index here ≡ here = walk_at piece w.front w.back index (w.front + index) here (omega arith) (omega arith) in
     let so_far = c.loop-index.invariant plain in
-    let lead = has_written_of_eq _ _ _ _ _ c.separator_before.ensures (c.in_ok-write_str.ensures.writes so_far.plain refl) in
+    let lead = written-as c.separator_before.ensures (c.in_ok-write_str.ensures.writes so_far.plain refl) in
     let wrote = c.in_ok-fmt.ensures.writes lead.plain refl in
     let bits = shown-bits _ _ _ _ _ c.into_part.ensures.bits c.from_parts-view.ensures c.piece-places.ensures in
     let text : bits_text (seen c.into_part.result).bits ≡ bits_text (slice_index_or all index here) = ap bits_text (bits ∙ sym is) in
-    has_written_of_eq _ _ _ _ _ (join_by-more bits_text all index here (omega arith))
-    (has_written_append _ _ _ _ _ _ so_far (has_written_append _ _ _ _ _ _ lead (has_written_of_eq _ _ _ _ _ text wrote)))
+    written-as (join_by-more bits_text all index here (omega arith))
+    (written-then so_far (written-then lead (written-as text wrote)))
 
 pub returns : goal.returns
 returns g c = λ plain _.
@@ -35,4 +35,4 @@ returns g c = λ plain _.
     let piece : ℕ → List Bool = λ number. cut w.view.bits (g.C.Cutting.place w.cutting w.view.window.len number) in
     let all = lists_left g.C.Cutting.place w in
     let long : length all ≡ w.back - w.front = walk_length piece w.front w.back in
-    has_written_of_eq _ _ _ _ _ (ap (join_by bits_text comma) (take_all c.loop-index.index all (omega arith))) (c.loop-index.invariant plain)
+    written-as (ap (join_by bits_text comma) (take_all c.loop-index.index all (omega arith))) (c.loop-index.invariant plain)

@@ -12,7 +12,7 @@ returns-in-Some g c =
     let right = list_in g.C.Elem.BitStore.BITS g.O.BitOrder.at (g.D.CellsRead.numbers c.args.right.now) c.args.source in
     rw (transfer-refused g.O.WordOrder.HIGH g.C.Elem.BitStore.BITS c.args.window.start right c.args.window.len c.args.self (is-transfer _ c.in_default.not-Plain) c.in-Some.refusal (sym c.in-Some.ensures.refusal))
     (record {
-      left = Answers-follow g.C.CellsRead _ _ _ _ c.args.window _ _ _ c.requires.window (record { reply = refl; list = refl; reads = record { numbers = refl; borrow = refl; loads = omega arith; stores = refl } });
+      left = Answers-follow c.requires.window (record { reply = refl; list = refl; reads = record { numbers = refl; borrow = refl; loads = omega arith; stores = refl } });
       right = record { numbers = refl; borrow = refl; loads = omega arith; stores = refl };
     })
 
@@ -23,6 +23,6 @@ returns-in-None g c =
     let did = rw c.range.ensures at (c.transfer.ensures right) in
     rw (transfer-does g.O.WordOrder.HIGH g.C.Elem.BitStore.BITS c.args.window.start right c.args.window.len c.args.self (is-transfer _ c.in_default.not-Plain) (sym c.in-None.ensures.refusal) fits)
     record {
-      left = Follows-range g.C.CellsRead _ _ _ _ c.args.window c.args.self.from c.args.self.to _ _ _ c.requires.window fits.order fits.bound did;
+      left = Follows-range c.args.self.from c.args.self.to c.requires.window fits.order fits.bound did;
       right = record { numbers = refl; borrow = refl; loads = omega arith; stores = refl };
     }

@@ -11,7 +11,7 @@ returns-in-Some g c =
     let right = list_in g.C.Elem.BitStore.BITS g.O.BitOrder.at (g.D.CellsRead.numbers c.args.right.now) c.args.source in
     let refusal = sym (c.step_refusal.ensures.refusal right (length-list _ c.requires.right_window)) ∙ c.in-Some.is in
     rw (outcome-is (step_row right c.args.window.len c.args.self) (Some c.in-Some.refusal) refusal) (record {
-      left = Answers-follow g.C.CellsRead _ _ _ _ c.args.window _ _ _ c.requires.window (record { reply = refl; list = refl; reads = record { numbers = refl; borrow = refl; loads = omega arith; stores = refl } });
+      left = Answers-follow c.requires.window (record { reply = refl; list = refl; reads = record { numbers = refl; borrow = refl; loads = omega arith; stores = refl } });
       right = record { numbers = refl; borrow = refl; loads = omega arith; stores = refl };
     })
 
@@ -23,6 +23,6 @@ returns-in-None g c =
     let did = rw c.range-target.ensures at c.carry_out.ensures in
     rw (step-does right c.args.window.len c.args.self refusal)
     record {
-      left = Follows-range g.C.CellsRead _ _ _ _ c.args.window c.args.self.from c.args.self.to _ _ _ c.requires.window fits.order fits.bound did.left;
+      left = Follows-range c.args.self.from c.args.self.to c.requires.window fits.order fits.bound did.left;
       right = did.right;
     }
