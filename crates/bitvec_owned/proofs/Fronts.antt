@@ -158,10 +158,10 @@ module _ {T : Type 0} (b : ℕ) (at : ℕ → ℕ → ℕ) (value : T → ℕ) (
         zeros = λ behind. rw (long, total, ← sum, ← size) (grown-zeros (bits_of old) (bits_of new) list end (b * (count - length old)) (omega arith) written (rw size behind));
       }
 
-  pub grown : (none : T) (old between new : List T) (end more n : ℕ) (list : List Bool) → value none ≡ 0 → n ≡ length old → n ≡ div_ceil end b → more ≡ length list
+  pub grown : (none : T) (old between new : List T) (end : ℕ) {more n : ℕ} (list : List Bool) → value none ≡ 0 → n ≡ length old → n ≡ div_ceil end b → more ≡ length list
       → between ≡ old ++ replicate (div_ceil (end + more) b - n) none → length new ≡ length between
       → bits_of new ≡ write_at (bits_of between) end list → LeavesFront b at value old new end (take end (bits_of old) ++ list)
-  grown none old between new end more n list is size touched long added many wrote =
+  grown none old between new end {more} {n} list is size touched long added many wrote =
       let below = div_ceil_times end b some in
       let above = div_ceil_times (end + more) b some in
       let fewer : div_ceil end b ≤ div_ceil (end + more) b = fewest b some end (div_ceil (end + more) b) (omega arith) in

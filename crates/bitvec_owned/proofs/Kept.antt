@@ -66,13 +66,13 @@ module _ {P : Type 0} (g : Mut P (ℕ × (Bor Bool × Unit {0})) Bool) where
     pub asked : (more : List Bool) → KeepsFrom (list_in b at old window) index pred more
         → IsFiltered (AsksNext g) (0, first) (list_in b at old window) (take kept (list_in b at now window) ++ more)
 
-  module _ (first : P) (b : ℕ) (at : ℕ → ℕ → ℕ) (old : List ℕ) (window : Window) (has : HasWindow b old window) where
-    pub moved-none : (now : List ℕ) → now ≡ old → Moved first b at old window first now 0 0
-    moved-none now same =
+  module _ {first : P} {b : ℕ} {at : ℕ → ℕ → ℕ} {old : List ℕ} {window : Window} (has : HasWindow b old window) where
+    pub moved-none : {now : List ℕ} → now ≡ old → Moved first b at old window first now 0 0
+    moved-none {now} same =
         subst (λ (xs : List ℕ). Moved first b at old window first xs 0 0) (sym same)
         (record { order = omega arith; writes = Writes-nothing at old has refl; rest = refl; asked = λ more is. is })
 
-    module _ (pred : P) (now : List ℕ) (index kept : ℕ) (done : Moved first b at old window pred now index kept) where
+    module _ {pred : P} {now : List ℕ} {index kept : ℕ} (done : Moved first b at old window pred now index kept) where
       pub moved-window : HasWindow b now window
       moved-window = HasWindow-kept now has done.writes.elements
 
@@ -83,7 +83,7 @@ module _ {P : Type 0} (g : Mut P (ℕ × (Bor Bool × Unit {0})) Bool) where
           subst (λ (l : List Bool). IsFiltered (AsksNext g) (0, first) (list_in b at old window) l) (append-nil (take kept (list_in b at now window)))
           (done.asked [] (keeps-none (list_in b at old window) index pred (omega arith)))
 
-      module _ (below : index < window.len) (bit : Bool) (read : bit ≡ slice_index_or (list_in b at now window) index false) (next : P) where
+      module _ (below : index < window.len) {bit : Bool} (read : bit ≡ slice_index_or (list_in b at now window) index false) (next : P) where
         -- the bit is as it was
         pub moved-bit : bit ≡ slice_index_or (list_in b at old window) index false
         moved-bit =
@@ -101,9 +101,9 @@ module _ {P : Type 0} (g : Mut P (ℕ × (Bor Bool × Unit {0})) Bool) where
               asked = λ more is. done.asked more (keeps-no (list_in b at old window) more index pred next (omega arith) asked is);
             }
 
-        pub moved-yes : (after : List ℕ) → Asks g pred index bit true next → Writes b at now after window (slice_set (list_in b at now window) kept bit)
+        pub moved-yes : {after : List ℕ} → Asks g pred index bit true next → Writes b at now after window (slice_set (list_in b at now window) kept bit)
             → Moved first b at old window next after (index + 1) (kept + 1)
-        moved-yes after asks wrote =
+        moved-yes {after} asks wrote =
             let before = list_in b at old window in
             let list = list_in b at now window in
             let long = length-list at has in

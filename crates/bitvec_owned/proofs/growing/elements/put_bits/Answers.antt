@@ -12,6 +12,6 @@ returns-clause-left g c =
     let size : length c.copy_from_in.new.left ≡ c.make_room.new.elements.len = many ∙ c.as_mut_slice.ensures.len in
     let added = rw c.window-from.ensures.value at c.in_ok-make_room.ensures.items in
     rw (refilled c.copy_from_in.new.left c.make_room.new.elements.items c.make_room.new.elements.len size)
-    (grown _ _ _ (width_some _ g.met.T.BitStore.width_law) g.T.BitStore.ZERO c.args.elements.now.items c.make_room.new.elements.items c.copy_from_in.new.left c.args.end _ _ _
+    (grown _ _ _ (width_some _ g.met.T.BitStore.width_law) g.T.BitStore.ZERO c.args.elements.now.items c.make_room.new.elements.items c.copy_from_in.new.left c.args.end _
     g.met.T.BitStore.zero_law c.args.elements.now.ok.0 c.requires.touched (sym (length-seen c.args.bits)) added (size ∙ c.make_room.new.elements.ok.0)
     (rw c.as_mut_slice.ensures.value at writes.bits))

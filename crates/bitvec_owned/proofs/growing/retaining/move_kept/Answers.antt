@@ -8,12 +8,12 @@ use Rattle.bitvec_owned.proofs.growing.retaining.move_kept.Goals.{then-keeps, el
 
 pub loop-index-init : goal.loop-index-init
 loop-index-init g c = record {
-  moved = moved-none _ _ _ _ _ _ c.requires.window _ refl;
+  moved = moved-none _ c.requires.window refl;
   callable = may_ask_of_fewer c.requires.callable (omega arith) (omega arith);
 }
 
 pub bit_in-bit-requires-clause-window : goal.bit_in-bit-requires-clause-window
-bit_in-bit-requires-clause-window g c = moved-window _ _ _ _ _ _ c.requires.window _ _ _ _ c.loop-index.invariant.moved
+bit_in-bit-requires-clause-window g c = moved-window _ c.requires.window c.loop-index.invariant.moved
 
 pub pred-keeps-requires : goal.pred-keeps-requires
 pred-keeps-requires g c = may_ask-now c.loop-index.invariant.callable (omega arith) _ _ (omega arith)
@@ -26,13 +26,13 @@ loop-index-preserved g c =
     let moved : Moved g.P.FnMut c.args.pred g.T.BitStore.BITS g.O.BitOrder.at (map g.T.BitStore.value c.args.elements.now) c.args.window c.pred-keeps.new.self (map g.T.BitStore.value c.if-keeps.elements) (c.loop-index.index + 1) c.if-keeps.kept =
     elim c.if-keeps.branch [
       | then-keeps w ↦ rw (w.elements-is, w.kept-is)
-          (moved-yes _ _ _ _ _ _ c.requires.window _ _ _ _ inv.moved below _ c.bit_in-bit.ensures _ _ (rw w.if-keeps.true at asks) w.set_in.ensures.writes)
+          (moved-yes _ c.requires.window inv.moved below c.bit_in-bit.ensures _ (rw w.if-keeps.true at asks) w.set_in.ensures.writes)
       | else-keeps w ↦ rw (w.elements-is, w.kept-is)
-          (moved-no _ _ _ _ _ _ c.requires.window _ _ _ _ inv.moved below _ c.bit_in-bit.ensures _ (rw w.if-keeps.false at asks))
+          (moved-no _ c.requires.window inv.moved below c.bit_in-bit.ensures _ (rw w.if-keeps.false at asks))
     ] in
     record { moved = moved; callable = may_ask_of_fewer (may_ask-next inv.callable (omega arith) below asks) (omega arith) (omega arith) }
 
 pub returns-clause-writes : goal.returns-clause-writes
 returns-clause-writes g c =
     let done = c.loop-index.invariant.moved in
-    (list_in g.T.BitStore.BITS g.O.BitOrder.at (map g.T.BitStore.value c.loop-index.elements) c.args.window, done.writes, moved-all _ _ _ _ _ _ c.requires.window _ _ _ _ done c.loop-index-test.false)
+    (list_in g.T.BitStore.BITS g.O.BitOrder.at (map g.T.BitStore.value c.loop-index.elements) c.args.window, done.writes, moved-all _ c.requires.window done c.loop-index-test.false)
