@@ -1,7 +1,7 @@
 //! Frames in bits.
 ghost use Rattle.std.specs.Prelude.{◌≡◌, ℕ, ◌+◌, ◌*◌, ◌^◌, ◌<◌, ◌≤◌, ◌↔◌, ◌⊎◌, IfErr, IfNone, IfOk, IfSome, IsOk, IsTrue, List, OnErr, OnOk, length};
 ghost use Rattle.bitvec.specs.Arrays.{msb0_bits};
-ghost use Rattle.bitvec.specs.Cursors.{elements_of, lender_of, writing};
+ghost use Rattle.bitvec.specs.Cursors.{KeepsElements, writing};
 ghost use Rattle.bitvec.specs.Ranges.{ChangesOnly, bits_in};
 ghost use Rattle.canframe.specs.Checksums.{crc_of};
 ghost use Rattle.canframe.specs.Frames.{HasBytes, HasHeader, IsFrame, IsSealed, LacksFrame, field};
@@ -22,8 +22,8 @@ const FRAME_BYTES: usize = 5;
 /// The most bytes of data.
 pub const MOST: usize = 8;
 
-/// Writes the first fields; every other bit stays. Conditions: nothing was written, the id has 11 bits, and there are at most
-/// 8 bytes of data.
+/// Writes the first fields; every other bit stays. If there is too little room, nothing is written. Conditions: nothing was
+/// written before, the id has 11 bits, and there are at most 8 bytes of data.
 #[tactic(auto, using(bitvec::specs::Laws::cursors))]
 fn put_header(writer: &mut Writer<'_>, id: u16, count: usize) -> Result<(), CursorError>
     requires start { (writing writer.old).position ≡ 0 }
@@ -32,8 +32,7 @@ fn put_header(writer: &mut Writer<'_>, id: u16, count: usize) -> Result<(), Curs
     ensures header { OnOk result (HasHeader (writing writer.new).bits id count) }
     ensures position { OnOk result ((writing writer.new).position ≡ 19) }
     ensures refused { OnErr result (length (writing writer.old).bits < 19) }
-    ensures len { length (elements_of writer.new) ≡ length (elements_of writer.old) }
-    ensures name { lender_of writer.new ≡ lender_of writer.old }
+    ensures elements { KeepsElements writer.old writer.new result }
 {
     writer.put_row(&[
         (1, 0),
@@ -46,7 +45,8 @@ fn put_header(writer: &mut Writer<'_>, id: u16, count: usize) -> Result<(), Curs
     Ok(())
 }
 
-/// Writes the data behind the first fields; every other bit stays. Condition: those were written.
+/// Writes the data behind the first fields; every other bit stays. If there is too little room, nothing is written. Condition:
+/// those were written.
 #[tactic(auto, using(bitvec::specs::Laws::fields, bitvec::specs::Laws::bitwise))]
 fn put_bytes(writer: &mut Writer<'_>, bytes: &[u8]) -> Result<(), CursorError>
     requires start { (writing writer.old).position ≡ 19 }
@@ -55,9 +55,11 @@ fn put_bytes(writer: &mut Writer<'_>, bytes: &[u8]) -> Result<(), CursorError>
     ensures position { OnOk result ((writing writer.new).position ≡ 19 + 8 * length bytes.now) }
     ensures outside { OnOk result (ChangesOnly 19 (19 + 8 * length bytes.now) (writing writer.old).bits (writing writer.new).bits) }
     ensures refused { OnErr result (length (writing writer.old).bits < 19 + 8 * length bytes.now) }
-    ensures len { length (elements_of writer.new) ≡ length (elements_of writer.old) }
-    ensures name { lender_of writer.new ≡ lender_of writer.old }
+    ensures elements { KeepsElements writer.old writer.new result }
 {
+    if writer.remaining() / 8 < bytes.len() {
+        return Err(CursorError::Full);
+    }
     for byte in bytes {
         writer.put(*byte, 8)?;
     }
@@ -73,7 +75,8 @@ fn checksum_of(writer: &Writer<'_>) -> u16
     checksum(writer.front())
 }
 
-/// Writes the checksum of all bits that were written, and zeros to fill the byte; every other bit stays.
+/// Writes the checksum of all bits that were written, and zeros to fill the byte; every other bit stays. If there is too
+/// little room, nothing is written. Condition: the first fields were written.
 #[tactic(auto, using(bitvec::specs::Laws::cursors))]
 fn put_checksum(writer: &mut Writer<'_>) -> Result<(), CursorError>
     requires behind { 19 ≤ (writing writer.old).position }
@@ -81,9 +84,11 @@ fn put_checksum(writer: &mut Writer<'_>) -> Result<(), CursorError>
     ensures bytes { OnOk result ((count : ℕ) (bytes : List ℕ) → HasBytes (writing writer.old).bits count bytes → 19 + 8 * count ≤ (writing writer.old).position → HasBytes (writing writer.new).bits count bytes) }
     ensures sealed { OnOk result (IsSealed (writing writer.new).bits (writing writer.old).position) }
     ensures refused { OnErr result (length (writing writer.old).bits < (writing writer.old).position + 21) }
-    ensures len { length (elements_of writer.new) ≡ length (elements_of writer.old) }
-    ensures name { lender_of writer.new ≡ lender_of writer.old }
+    ensures elements { KeepsElements writer.old writer.new result }
 {
+    if writer.remaining() < 21 {
+        return Err(CursorError::Full);
+    }
     let checksum = checksum_of(writer);
     writer.put(checksum, 15)?;
     writer.put(0u8, 6)?;
