@@ -57,10 +57,10 @@ Writes-elements {b} at {xs} {ys} {to} {from} some span edge right_edge whole =
     }
 
 -- the elements of a part copied at once
-pub elements-copied : {A : Type 0} (value : A → ℕ) {b : ℕ} {at : ℕ → ℕ → ℕ} {left right : List A} {new : List A} {to from : Window} → 0 < b → HasSpan b (map value left) (map value right) to from → to.start % b ≡ 0 → from.start % b ≡ 0 → to.len % b ≡ 0
+pub elements-copied : {A : Type 0} (value : A → ℕ) {b : ℕ} {at : ℕ → ℕ → ℕ} (left right : List A) {new : List A} {to from : Window} → 0 < b → HasSpan b (map value left) (map value right) to from → to.start % b ≡ 0 → from.start % b ≡ 0 → to.len % b ≡ 0
     → new ≡ slice_range right (from.start / b) (from.start / b + to.len / b)
     → Writes b at (map value left) (map value (put_mid (to.start / b) (to.start / b + to.len / b - to.start / b) left new)) to (list_in b at (map value right) from)
-elements-copied value {b} {at} {left} {right} {new} {to} {from} some span edge right_edge whole is =
+elements-copied value {b} {at} left right {new} {to} {from} some span edge right_edge whole is =
     let wrote = Writes-elements at some span edge right_edge whole in
     let inside = whole-inside to.len some span.beside right_edge whole (let lengths = span.lengths in omega arith) in
     let ends = length-map right value in
@@ -76,10 +76,10 @@ pub none-copied : {b : ℕ} {at : ℕ → ℕ → ℕ} {xs ys : List ℕ} {to fr
 none-copied {b} {at} {xs} {ys} {to} {from} span none = Writes-none at ys from span.window none (sym span.lengths ∙ none)
 
 -- those of an element that was read, stored at the same indices of another
-pub part-copied : {A : Type 0} (value : A → ℕ) {b : ℕ} {at : ℕ → ℕ → ℕ} {xs mid : List ℕ} {right : List A} {to from : Window} {part : Part} {v : A} → 0 < b → HasSpan b xs (map value right) to from → to.len ≢ 0 → to.start % b ≡ from.start % b → to.start % b + to.len ≤ b
+pub part-copied : {A : Type 0} (value : A → ℕ) {b : ℕ} {at : ℕ → ℕ → ℕ} {xs mid : List ℕ} (right : List A) {to from : Window} {part : Part} {v : A} → 0 < b → HasSpan b xs (map value right) to from → to.len ≢ 0 → to.start % b ≡ from.start % b → to.start % b + to.len ≤ b
     → part ≡ first_part_of b to → v ≡ slice_index_or right (from.start / b) v
     → Writes b at xs mid (part_window b part) (slice_range (element_bits b at (value v)) part.from part.to) → Writes b at xs mid to (list_in b at (map value right) from)
-part-copied value {b} {at} {xs} {mid} {right} {to} {from} {part} {v} some span more phases one is held writes =
+part-copied value {b} {at} {xs} {mid} right {to} {from} {part} {v} some span more phases one is held writes =
     let ys = map value right in
     let place = div-add-mod' to.start b in
     let right_place = div-add-mod' from.start b in

@@ -9,5 +9,5 @@ returns-then-to-eq0 g c = record { writes = none-copied c.requires.span c.if-to-
 pub returns : goal.returns
 returns g c =
     let wrote = rw c.new-cells.ensures.numbers at c.store_part.ensures.writes in
-    let done = part-copied g.T.BitStore.value (width_some _ g.met.T.BitStore.width_law) c.requires.span c.if-to-eq0.false c.requires.phases c.requires.part c.first_part-part.ensures (rw c.element.ensures at c.index-right-element.is) wrote in
+    let done = part-copied g.T.BitStore.value _ (width_some _ g.met.T.BitStore.width_law) c.requires.span c.if-to-eq0.false c.requires.phases c.requires.part c.first_part-part.ensures (rw c.element.ensures at c.index-right-element.is) wrote in
     record { writes = record { bits = search (rules, done.bits); long = done.long; elements = search (rules, done.elements) } }
