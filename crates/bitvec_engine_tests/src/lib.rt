@@ -19,4 +19,6 @@ mod tallied;
 #[cfg(test)]
 mod tally;
 #[cfg(test)]
+mod windows;
+#[cfg(test)]
 mod word_steps;
