@@ -1,7 +1,7 @@
 //! Numbers written to bytes in Elias gamma codes, and read from them. The highest bit of each byte comes first.
-ghost use Rattle.std.specs.Prelude.{◌≡◌, ◌+◌, ◌*◌, ◌<◌, ◌≤◌, IfOk, IfSome, IfNone, OnErr, OnOk, length};
+ghost use Rattle.std.specs.Prelude.{◌≡◌, ◌+◌, ◌*◌, ◌<◌, ◌≤◌, IfOk, IfSome, IfNone, OnErr, OnOk, if◌then◌else◌, is_ok, length};
 ghost use Rattle.std.specs.List.{All};
-ghost use Rattle.bitvec.specs.Cursors.{elements_of, lender_of, reading, writing};
+ghost use Rattle.bitvec.specs.Cursors.{KeepsElements, lender_of, reading, writing};
 ghost use Rattle.bitvec.specs.Ranges.{ChangesOnly};
 ghost use Rattle.bitstream.specs.Codes.{AreCodes, AreFirstCodes, IsAhead, IsCode, LacksCode, LacksCodes, code_len, code_zeros, codes_len};
 
@@ -31,12 +31,9 @@ pub fn put_code(writer: &mut Writer<'_>, number: u64) -> Result<(), CursorError>
     requires { 0 < number }
     ensures code { OnOk result (IsCode (writing writer.new).bits (writing writer.old).position number) }
     ensures outside { OnOk result (ChangesOnly (writing writer.old).position (writing writer.new).position (writing writer.old).bits (writing writer.new).bits) }
-    ensures position { OnOk result ((writing writer.new).position ≡ (writing writer.old).position + code_len number) }
+    ensures position { (writing writer.new).position ≡ (writing writer.old).position + (if is_ok result then code_len number else 0) }
     ensures refused { OnErr result (length (writing writer.old).bits < (writing writer.old).position + code_len number) }
-    ensures kept { OnErr result (elements_of writer.new ≡ elements_of writer.old) }
-    ensures stayed { OnErr result ((writing writer.new).position ≡ (writing writer.old).position) }
-    ensures len { length (elements_of writer.new) ≡ length (elements_of writer.old) }
-    ensures name { lender_of writer.new ≡ lender_of writer.old }
+    ensures elements { KeepsElements writer.old writer.new result }
 {
     let zeros = zeros_before(number);
     if writer.remaining() < 2 * zeros as usize + 1 {
@@ -57,7 +54,6 @@ pub fn put_codes(writer: &mut Writer<'_>, numbers: &[u64]) -> Result<(), CursorE
     ensures refused { OnErr result (length (writing writer.old).bits < (writing writer.old).position + codes_len numbers.now) }
     ensures first { OnErr result (AreFirstCodes (writing writer.new).bits (writing writer.old).position (writing writer.new).position numbers.now) }
     ensures outside { ChangesOnly (writing writer.old).position (writing writer.new).position (writing writer.old).bits (writing writer.new).bits }
-    ensures len { length (elements_of writer.new) ≡ length (elements_of writer.old) }
     ensures name { lender_of writer.new ≡ lender_of writer.old }
 {
     for number in numbers {

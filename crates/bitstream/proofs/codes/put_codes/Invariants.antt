@@ -1,5 +1,5 @@
-use Rattle.std.proofs.Common.{◌≡◌, ◌≤◌, length, take}
-use Rattle.bitvec.specs.Cursors.{elements_of, lender_of, writing}
+use Rattle.std.proofs.Common.{◌≡◌, ◌≤◌, take}
+use Rattle.bitvec.specs.Cursors.{lender_of, writing}
 use Rattle.bitvec.specs.Ranges.{ChangesOnly}
 use Rattle.bitstream.specs.Codes.{AreCodes}
 use Rattle.bitstream.proofs.codes.put_codes.Given as goal
@@ -9,6 +9,5 @@ invariant-loop-number l = record {
   codes : AreCodes (writing l.writer).bits (writing l.initial.writer).position (writing l.writer).position (take l.number-index l.numbers);
   order : (writing l.initial.writer).position ≤ (writing l.writer).position;
   outside : ChangesOnly (writing l.initial.writer).position (writing l.writer).position (writing l.initial.writer).bits (writing l.writer).bits;
-  len : length (elements_of l.writer) ≡ length (elements_of l.initial.writer);
   name : lender_of l.writer ≡ lender_of l.initial.writer;
 }
