@@ -1,2 +1,3 @@
 pub mod Headers
+pub mod PrefixCodes
 pub mod Segments

@@ -1,5 +1,5 @@
 //! Callers of `bitvec` as codecs, maps and containers need it: numbers of ranges side by side, what was found in place, the
-//! front of an array, cursors, headers, flags, sets of numbers, and types of one's own that edit and are asked.
+//! front of an array, cursors, headers, prefix codes, flags, sets of numbers, and types of one's own that edit and are asked.
 #![tactic(auto)]
 
 #[cfg(test)]
@@ -20,6 +20,8 @@ mod numbers_in_views;
 mod own_edits;
 #[cfg(test)]
 mod own_views;
+#[cfg(test)]
+mod prefix_codes;
 #[cfg(test)]
 mod segments;
 #[cfg(test)]

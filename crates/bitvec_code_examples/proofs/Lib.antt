@@ -1,0 +1,2 @@
+pub mod PrefixTables
+pub mod PrefixTexts
