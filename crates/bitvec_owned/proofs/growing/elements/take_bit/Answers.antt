@@ -40,5 +40,5 @@ returns-clause-left g c =
     let cleared : g.T.BitStore.value c.and.result ≡ put_mask b (slice_index xs (c.args.last / b)) (2 ^ at b (c.args.last % b)) false =
     rw (c.and.ensures, c.not.ensures, c.select-mask.ensures, c.BITS-width.ensures, element, ← (rw c.BITS-width.ensures at c.index-element.ensures)) refl in
     let wrote : memory_bits b at (map g.T.BitStore.value (slice_set old (c.args.last / b) c.and.result)) ≡ _ =
-    rw (map-set g.T.BitStore.value old (c.args.last / b) c.and.result, cleared) (place-put b at width (g.met.O.BitOrder.permutes _ width) xs c.args.last false (rw long below)) in
+    rw (map-set g.T.BitStore.value old (c.args.last / b) c.and.result, cleared) (place-put at width (g.met.O.BitOrder.permutes _ width) xs false (rw long below)) in
     taken b at g.T.BitStore.value some old _ c.drop_untouched.new.elements.items c.args.last below (rw c.BITS-width.ensures at c.drop_untouched.ensures.items) (length-set _ _ _) wrote
