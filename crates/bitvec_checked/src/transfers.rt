@@ -3,7 +3,6 @@ ghost use Rattle.bitvec_commands.specs.declared.command.Op.TheVariants.{And, Cop
 ghost use Rattle.bitvec_checked.specs.Calls.{EditsBeside, Joins, Swaps};
 ghost use Rattle.bitvec_checked.specs.Pairs.{only_first};
 ghost use Rattle.bitvec_checked.specs.Statuses.{bits_from};
-ghost use Rattle.bitvec_words.specs.Operator.{operator};
 
 use crate::status::{equal_windows_status, windows_status};
 use bitvec_base::Window;
@@ -53,7 +52,12 @@ pub fn and<T: BitStore>(
         start: right_start,
         len: right_len,
     };
-    combine(order, elements, window, right, right_window, BitOp::And)
+    let status = windows_status(order, elements, window, right, right_window);
+    tested!(
+        status,
+        order,
+        combine_block_in::<T>(elements, window, right, right_window, BitOp::And)
+    )
 }
 
 /// Makes each bit of a window that bit or the one at its index in the right window, 0 past its end.
@@ -73,7 +77,12 @@ pub fn or<T: BitStore>(
         start: right_start,
         len: right_len,
     };
-    combine(order, elements, window, right, right_window, BitOp::Or)
+    let status = windows_status(order, elements, window, right, right_window);
+    tested!(
+        status,
+        order,
+        combine_block_in::<T>(elements, window, right, right_window, BitOp::Or)
+    )
 }
 
 /// Makes each bit of a window whether it differs from the one at its index in the right window, 0 past its
@@ -94,7 +103,12 @@ pub fn xor<T: BitStore>(
         start: right_start,
         len: right_len,
     };
-    combine(order, elements, window, right, right_window, BitOp::Xor)
+    let status = windows_status(order, elements, window, right, right_window);
+    tested!(
+        status,
+        order,
+        combine_block_in::<T>(elements, window, right, right_window, BitOp::Xor)
+    )
 }
 
 /// Clears each bit of a window where the one at its index in the right window, 0 past its end, is 1.
@@ -114,27 +128,11 @@ pub fn and_not<T: BitStore>(
         start: right_start,
         len: right_len,
     };
-    combine(order, elements, window, right, right_window, BitOp::AndNot)
-}
-
-/// Makes each bit of a window what an operator makes of it and the one at its index in the right window, 0 past its
-/// end.
-#[inline(always)]
-fn combine<T: BitStore>(
-    order: u32,
-    elements: &mut [T],
-    window: Window,
-    right: &[T],
-    right_window: Window,
-    op: BitOp,
-) -> u32
-    ensures { Joins order T.BITS T.value (operator op) window right_window elements.old elements.new right.now result }
-{
     let status = windows_status(order, elements, window, right, right_window);
     tested!(
         status,
         order,
-        combine_block_in::<T>(elements, window, right, right_window, op)
+        combine_block_in::<T>(elements, window, right, right_window, BitOp::AndNot)
     )
 }
 
