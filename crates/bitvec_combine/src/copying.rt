@@ -18,7 +18,7 @@ use bitvec_words::{WordOrder, store_part};
 
 /// How many shifted elements are copied in a turn: so many that the compiler makes vectors of them before it unrolls the
 /// turn. By its own choice a turn has two vectors, and takes up to twice as long where its jump falls badly.
-const TURN: usize = 48;
+const TURN: usize = 64;
 
 /// The act that puts the other bits in the place of the window's.
 #[derive(Clone, Copy)]
