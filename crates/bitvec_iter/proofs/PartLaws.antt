@@ -57,14 +57,14 @@ module _ {X : Type 0} {b : ℕ} (xs : List X) (head len from to : ℕ) {start en
   pub part-left : {Y : Type 0} (end_as : List X → Y) (ws : List X) → end_as (with_range xs start end ws) ≡ end_as (with_range xs (first_touched b (head + from)) (end_touched b (head + to)) ws)
   part-left end_as ws = rw (first, last) refl
 
-  module _ {w : ℕ} {ys : List X} (are : ys ≡ slice_range xs start end) (is : w ≡ b) where
-    pub part-holds : (head + from) % w + (to - from) ≤ b * length ys
+  module _ {skip : ℕ} {ys : List X} (are : ys ≡ slice_range xs start end) (is : skip ≡ (head + from) % b) where
+    pub part-holds : skip + (to - from) ≤ b * length ys
     part-holds = rw (is, are, first, last) (touched_holds b xs head len from to (width_some b width) inside order bound)
 
     pub part-few : (most : ℕ) → b * length xs ≤ most → b * length ys ≤ most
     part-few most few = rw (are, first, last) (touched_few b xs head len from to (width_some b width) inside order bound most few)
 
-    pub part-shown : (at : ℕ → ℕ → ℕ) (value : X → ℕ) (part : Seen X) → part ≡ shown b at value ys ((head + from) % w) (to - from) → IsRangeOf b (shown b at value xs head len) from to part
+    pub part-shown : (at : ℕ → ℕ → ℕ) (value : X → ℕ) (part : Seen X) → part ≡ shown b at value ys skip (to - from) → IsRangeOf b (shown b at value xs head len) from to part
     part-shown at value part view = part_view b at value xs head len inside part from to width order bound (rw (are, first, last, is) at view)
 
 -- the bits of a part of a view of which it is known what it shows

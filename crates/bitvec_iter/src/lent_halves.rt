@@ -3,7 +3,7 @@ ghost use Rattle.std.specs.Prelude.{◌≡◌, ◌+◌, ◌*◌, ◌≤◌, leng
 ghost use Rattle.bitvec_base.specs.Window.{max_bits};
 
 use bitvec_base::{BitOrder, Window};
-use bitvec_slice::{BitSliceMut, Sealed, ViewMut, touched_range};
+use bitvec_slice::{BitSliceMut, Sealed, ViewMut, phase_of, touched_range};
 use bitvec_store::BitStore;
 use std::marker::PhantomData;
 
@@ -105,7 +105,7 @@ impl<'a, T: BitStore, O: BitOrder> HalvesMut<'a, T, O> {
         let start = self.head + from;
         let touched = touched_range::<T>(start, self.head + to);
         let elements = self.elements_part_mut(touched.start, touched.end);
-        BitSliceMut::from_parts(elements, start % (T::BITS as usize), to - from)
+        BitSliceMut::from_parts(elements, phase_of::<T>(start), to - from)
     }
 
     fn elements_part_mut(&mut self, start: usize, end: usize) -> &mut [T]

@@ -5,7 +5,7 @@ ghost use Rattle.bitvec_base.specs.Window.{max_bits};
 use crate::split_state::{SplitState, look};
 use crate::{AtMost, Every, SplitLimit};
 use bitvec_base::{BitOrder, Window};
-use bitvec_slice::{BitSlice, BitSliceMut, Sealed, ViewMut, touched_range};
+use bitvec_slice::{BitSlice, BitSliceMut, Sealed, ViewMut, phase_of, touched_range};
 use bitvec_split::{Forward, Inclusive, Reversed, SplitKind};
 use bitvec_store::BitStore;
 use std::marker::PhantomData;
@@ -239,7 +239,7 @@ impl<'a, T: BitStore, O: BitOrder, P, W, L> SplitsMut<'a, T, O, P, W, L> {
         let start = self.head + from;
         let cells = touched_range::<T>(start, self.head + to);
         let elements = self.elements_part_mut(cells.start, cells.end);
-        BitSliceMut::from_parts(elements, start % (T::BITS as usize), to - from)
+        BitSliceMut::from_parts(elements, phase_of::<T>(start), to - from)
     }
 
     fn elements_part_mut(&mut self, start: usize, end: usize) -> &mut [T]

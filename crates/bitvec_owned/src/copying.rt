@@ -33,6 +33,6 @@ fn start_of_copy<T: BitStore>(window: Window) -> usize
     if window.len == 0 {
         0
     } else {
-        window.start % (T::BITS as usize)
+        window.phase::<T>()
     }
 }

@@ -1,7 +1,7 @@
 //! Indices of a view, and ranges of them.
 ghost use Rattle.std.specs.Prelude.{◌≡◌, ◌+◌, ◌<◌, false, slice_index_or};
 
-use crate::touching::touched_range;
+use crate::touching::{phase_of, touched_range};
 use crate::{BitSlice, BitSliceIndex, BitSliceMut};
 use bitvec_base::BitOrder;
 use bitvec_domain::{BitRef, BitRefMut, bit_in};
@@ -111,11 +111,7 @@ impl<'a, T: BitStore, O: BitOrder> BitSliceMut<'a, T, O> {
         let start = self.window().start + range.start;
         let touched = touched_range::<T>(start, self.window().start + range.end);
         let elements = self.elements_part_mut(touched.start, touched.end);
-        BitSliceMut::from_parts(
-            elements,
-            start % (T::BITS as usize),
-            range.end - range.start,
-        )
+        BitSliceMut::from_parts(elements, phase_of::<T>(start), range.end - range.start)
     }
 
     /// The bit at an index for writing, as `get_mut(index)` gives it. Condition: the index is below

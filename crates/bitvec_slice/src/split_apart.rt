@@ -64,7 +64,7 @@ impl<'a, T: BitStore, O: BitOrder> BitSliceMut<'a, T, O> {
         let before = &mut before[front.start..];
         let after = &mut after[..rest.end - rest.start];
         (
-            BitSliceMut::from_parts(before, window.start % (T::BITS as usize), mid),
+            BitSliceMut::from_parts(before, window.phase::<T>(), mid),
             BitSliceMut::from_parts(after, 0, window.len - mid),
         )
     }

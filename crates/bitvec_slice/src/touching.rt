@@ -5,6 +5,13 @@ ghost use Rattle.bitvec_slice.specs.Touched.{end_touched, first_touched};
 use bitvec_store::BitStore;
 use std::ops::Range;
 
+/// At which bit of its element a place is, for crates above. `bitvec` has no such call.
+pub fn phase_of<T: BitStore>(place: usize) -> usize
+    ensures { result ≡ place % T.BITS }
+{
+    place % T::BITS as usize
+}
+
 /// The elements that the places from `start` up to `end` touch, for crates above. Condition:
 /// `start <= end`. `bitvec` has no such call.
 pub fn touched_range<T: BitStore>(start: usize, end: usize) -> Range<usize>

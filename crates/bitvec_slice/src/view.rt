@@ -4,7 +4,7 @@ ghost use Rattle.bitvec_base.specs.Window.{max_bits};
 
 use crate::BitDomain;
 use crate::bit_domain::bit_domain_of;
-use crate::touching::touched_range;
+use crate::touching::{phase_of, touched_range};
 use bitvec_base::{BitOrder, MAX_BITS, Window};
 use bitvec_domain::{Domain, domain_of};
 use bitvec_store::BitStore;
@@ -172,11 +172,7 @@ impl<'a, T: BitStore, O: BitOrder> BitSlice<'a, T, O> {
         let start = self.head + range.start;
         let touched = touched_range::<T>(start, self.head + range.end);
         let elements = &self.elements[touched.start..touched.end];
-        BitSlice::from_parts(
-            elements,
-            start % (T::BITS as usize),
-            range.end - range.start,
-        )
+        BitSlice::from_parts(elements, phase_of::<T>(start), range.end - range.start)
     }
 
     /// Where the view stands among the elements that it touches. `bitvec` has no such call.

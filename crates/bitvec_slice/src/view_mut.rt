@@ -3,7 +3,7 @@ ghost use Rattle.std.specs.Prelude.{◌≡◌, ◌+◌, ◌*◌, ◌≤◌, ◌=
 ghost use Rattle.bitvec_base.specs.Window.{max_bits};
 
 use crate::bit_domain::bit_domain_mut_of;
-use crate::touching::touched_range;
+use crate::touching::{phase_of, touched_range};
 use crate::{BitDomain, BitDomainMut, BitSlice, Sealed};
 use bitvec_base::{BitOrder, Window};
 use bitvec_domain::{Domain, DomainMut, domain_mut_of};
@@ -209,11 +209,7 @@ impl<'a, T: BitStore, O: BitOrder> BitSliceMut<'a, T, O> {
         let start = head + range.start;
         let touched = touched_range::<T>(start, head + range.end);
         let elements = &mut elements[touched.start..touched.end];
-        BitSliceMut::from_parts(
-            elements,
-            start % (T::BITS as usize),
-            range.end - range.start,
-        )
+        BitSliceMut::from_parts(elements, phase_of::<T>(start), range.end - range.start)
     }
 
     /// Where the view stands among the elements that it touches. `bitvec` has no such call.

@@ -13,7 +13,7 @@ elements_part_mut-elements-requires-clause-bound g c =
 pub from_parts-requires-clause-inside : goal.from_parts-requires-clause-inside
 from_parts-requires-clause-inside g c =
     let s = c.args.self.now in
-    rw (c.elements_part_mut-elements.ensures.elements, c.touched_range-cells.ensures.first, c.touched_range-cells.ensures.end, c.BITS.ensures)
+    rw (c.elements_part_mut-elements.ensures.elements, c.touched_range-cells.ensures.first, c.touched_range-cells.ensures.end, c.phase_of.ensures)
     (touched_holds g.T.BitStore.BITS s.elements.now s.head s.len c.args.from c.args.to (width_some _ g.met.T.BitStore.width_law) s.inside c.requires.order c.requires.bound)
 
 pub from_parts-requires-clause-fits : goal.from_parts-requires-clause-fits
@@ -29,6 +29,6 @@ returns g c =
       record {
         writes_back = tt;
         part = part_view _ _ _ s.elements.now s.head s.len s.inside _ c.args.from c.args.to g.met.T.BitStore.width_law c.requires.order c.requires.bound
-            (rw (c.elements_part_mut-elements.ensures.elements, c.touched_range-cells.ensures.first, c.touched_range-cells.ensures.end, c.BITS.ensures) at c.from_parts.ensures.view);
+            (rw (c.elements_part_mut-elements.ensures.elements, c.touched_range-cells.ensures.first, c.touched_range-cells.ensures.end, c.phase_of.ensures) at c.from_parts.ensures.view);
       },
     )

@@ -51,7 +51,7 @@ pub from_parts-requires-clause-inside : goal.from_parts-requires-clause-inside
 from_parts-requires-clause-inside g c =
     let edge = edge-touched g.T.BitStore.BITS (c.window-window.result.start + c.args.mid) (rw c.window-window.ensures.value c.requires.edge) in
     let holds = rw (c.touched_range-front.ensures.end, edge, ← c.touched_range-rest.ensures.first) at c.touched_range-front.ensures.holds in
-    rw (front-length c.split_at_mut-before.result.0.now c.touched_range-front.result.start c.touched_range-rest.result.start c.split_at_mut-before.ensures.front_len, c.BITS.ensures)
+    rw (front-length c.split_at_mut-before.result.0.now c.touched_range-front.result.start c.touched_range-rest.result.start c.split_at_mut-before.ensures.front_len, c.phase.ensures)
     (omega arith)
 
 pub from_parts-requires-clause-fits : goal.from_parts-requires-clause-fits
@@ -87,7 +87,7 @@ returns-clause-front g c =
     let v = c.args.self in
     let front = rw (c.into_elements.ensures.elements, c.touched_range-rest.ensures.first, c.window-window.ensures.value) at c.split_at_mut-before.ensures.front in
     front-half _ _ _ v.elements.now v.head v.len v.inside _ c.args.mid g.met.T.BitStore.width_law (omega arith) c.requires.edge
-    (rw (front, c.touched_range-front.ensures.first, c.window-window.ensures.value, c.BITS.ensures) at c.from_parts.ensures.view)
+    (rw (front, c.touched_range-front.ensures.first, c.phase.ensures, c.window-window.ensures.value) at c.from_parts.ensures.view)
 
 pub returns-clause-rest : goal.returns-clause-rest
 returns-clause-rest g c =

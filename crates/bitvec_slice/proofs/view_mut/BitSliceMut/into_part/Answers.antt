@@ -25,16 +25,13 @@ slice_bounds-elements-end g c =
     rw c.touched_range-touched.ensures.end
     (touched_end g.T.BitStore.BITS v.elements.now v.head v.len c.args.range.start c.args.range.end (width_some _ g.met.T.BitStore.width_law) v.inside c.requires.0 c.requires.1)
 
-pub nonzero_rem-start : goal.nonzero_rem-start
-nonzero_rem-start g c = rw c.BITS.ensures (width_some _ g.met.T.BitStore.width_law)
-
 pub overflow_sub-range : goal.overflow_sub-range
 overflow_sub-range g c = omega arith
 
 pub from_parts-requires-clause-inside : goal.from_parts-requires-clause-inside
 from_parts-requires-clause-inside g c =
     let v = c.args.self in
-    rw (c.touched_range-touched.ensures.first, c.touched_range-touched.ensures.end, c.BITS.ensures)
+    rw (c.touched_range-touched.ensures.first, c.touched_range-touched.ensures.end, c.phase_of.ensures)
     (touched_holds g.T.BitStore.BITS v.elements.now v.head v.len c.args.range.start c.args.range.end (width_some _ g.met.T.BitStore.width_law) v.inside c.requires.0 c.requires.1)
 
 pub from_parts-requires-clause-fits : goal.from_parts-requires-clause-fits
@@ -47,4 +44,4 @@ pub returns : goal.returns
 returns g c =
     let v = c.args.self in
     part_view _ _ _ v.elements.now v.head v.len v.inside _ c.args.range.start c.args.range.end g.met.T.BitStore.width_law c.requires.0 c.requires.1
-    (rw (c.touched_range-touched.ensures.first, c.touched_range-touched.ensures.end, c.BITS.ensures) at c.from_parts.ensures.view)
+    (rw (c.touched_range-touched.ensures.first, c.touched_range-touched.ensures.end, c.phase_of.ensures) at c.from_parts.ensures.view)

@@ -12,13 +12,10 @@ elements_part_mut-elements-requires-clause-bound g c =
     rw (c.touched_range-touched.ensures.end, c.window-2.ensures.value)
     (touched_end g.T.BitStore.BITS v.elements.now v.head v.len c.args.range.start c.args.range.end (width_some _ g.met.T.BitStore.width_law) v.inside c.requires.0 c.requires.1)
 
-pub nonzero_rem-start : goal.nonzero_rem-start
-nonzero_rem-start g c = rw c.BITS.ensures (width_some _ g.met.T.BitStore.width_law)
-
 pub from_parts-requires-clause-inside : goal.from_parts-requires-clause-inside
 from_parts-requires-clause-inside g c =
     let v = c.args.self.now in
-    rw (c.elements_part_mut-elements.ensures.elements, c.touched_range-touched.ensures.first, c.touched_range-touched.ensures.end, c.window.ensures.value, c.window-2.ensures.value, c.BITS.ensures)
+    rw (c.elements_part_mut-elements.ensures.elements, c.touched_range-touched.ensures.first, c.touched_range-touched.ensures.end, c.phase_of.ensures, c.window.ensures.value, c.window-2.ensures.value)
     (touched_holds g.T.BitStore.BITS v.elements.now v.head v.len c.args.range.start c.args.range.end (width_some _ g.met.T.BitStore.width_law) v.inside c.requires.0 c.requires.1)
 
 pub from_parts-requires-clause-fits : goal.from_parts-requires-clause-fits
@@ -36,6 +33,6 @@ returns g c =
       record {
         writes_back = tt;
         part = part_view _ _ _ v.elements.now v.head v.len v.inside _ c.args.range.start c.args.range.end g.met.T.BitStore.width_law c.requires.0 c.requires.1
-            (rw (c.elements_part_mut-elements.ensures.elements, c.touched_range-touched.ensures.first, c.touched_range-touched.ensures.end, c.window.ensures.value, c.window-2.ensures.value, c.BITS.ensures) at c.from_parts.ensures.view);
+            (rw (c.elements_part_mut-elements.ensures.elements, c.touched_range-touched.ensures.first, c.touched_range-touched.ensures.end, c.phase_of.ensures, c.window.ensures.value, c.window-2.ensures.value) at c.from_parts.ensures.view);
       },
     )
