@@ -53,7 +53,7 @@ NOTIONS = [
     Notion("access", "Counted access and costs", "Access to the elements of a memory that counts loads and stores, and what an operation may take.",
            "bitvec_cells bitvec_engine/{WordSteps,WordStepsLaws}"),
     Notion("memories", "Operations on memories", "The operations through counted access, by words where the order has them.",
-           "bitvec_words bitvec_move bitvec_combine bitvec_passes bitvec_engine"),
+           "bitvec_words bitvec_few bitvec_move bitvec_combine bitvec_passes bitvec_engine"),
     Notion("slices", "Operations on slices", "The operations on windows of slices of elements, which views call.", "bitvec_elements bitvec_within"),
 ]
 SETS = Notion("sets", "Sets of laws", "What a function names by `using`: `#[tactic(auto, using(bitvec::specs::Laws::found))]`.", "", "PROOFS.md")

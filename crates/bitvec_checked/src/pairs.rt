@@ -9,7 +9,8 @@ ghost use Rattle.bitvec_checked.specs.Statuses.{bits_from};
 
 use crate::status::windows_status;
 use bitvec_base::Window;
-use bitvec_elements::few_word;
+use bitvec_cells::Shared;
+use bitvec_few::load_parts;
 use bitvec_store::BitStore;
 use bitvec_words::{BitOp, WORD_BITS, WordOrder};
 
@@ -167,9 +168,10 @@ fn pairs_word<T: BitStore, O: WordOrder>(
     ensures { element_bits 64 O.at result ≡ padded 64 (slice_range (combined (looks_for pair)
         (list_in T.BITS O.at (map T.value elements.now) window) (list_in T.BITS O.at (map T.value right.now) right_window)) from to) }
 {
-    let word = few_word::<O, T>(elements, window.range(from, to));
+    let word = load_parts::<O, Shared<T>>(&mut Shared::new(elements), window.range(from, to));
     let end = right_window.len;
-    let other = few_word::<O, T>(right, right_window.range(from.min(end), to.min(end)));
+    let part = right_window.range(from.min(end), to.min(end));
+    let other = load_parts::<O, Shared<T>>(&mut Shared::new(right), part);
     pair.of_words::<O>(word, other)
 }
 

@@ -6,10 +6,10 @@ use crate::acting::{Act, spans_in};
 use crate::phases::Phases;
 use bitvec_base::Window;
 use bitvec_cells::CellsRead;
+use bitvec_few::load_element_after;
 use bitvec_store::BitStore;
 use bitvec_words::{
-    Carried, Lanes, Stretch, Whole, WordOrder, at_known_skip, known_skip_pays, load_element_after,
-    toward_end,
+    Carried, Lanes, Stretch, Whole, WordOrder, at_known_skip, known_skip_pays, toward_end,
 };
 
 /// The windows begin at different indices of their elements: the last element loaded is carried, and joined with the

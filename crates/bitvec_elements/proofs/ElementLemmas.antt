@@ -2,7 +2,7 @@
 use borrow.Rule.Slice.PartMut.{put_mid}
 use Rattle.std.specs.Prelude.{◌≡◌, ◌≢◌, ℕ, ◌+◌, ◌-◌, ◌*◌, ◌/◌, ◌%◌, ◌<◌, ◌≤◌, Bool, List, length, map, slice_index, slice_index_or, slice_range}
 use Rattle.std.proofs.Common.{arith, sym, ap, ◌∙◌}
-use Rattle.std.proofs.Math.Nat.{add-mul}
+use Rattle.std.proofs.Math.Nat.{add-mul, mod-add-mod}
 use Rattle.std.proofs.lemmas.List.{get_or-map, length-map}
 use Rattle.std.proofs.lemmas.Nat.{div-add-mod'}
 use Rattle.bitvec_base.specs.declared.part.Part.{Part}
@@ -20,6 +20,8 @@ use Rattle.bitvec_words.specs.FieldLaws.{Writes-none, element_of, list-part}
 use Rattle.bitvec_words.specs.WholeLaws.{HasWindow-part, Writes-same, elements-inside, list-same}
 use Rattle.bitvec_words.specs.WrittenLaws.{memory-write_at}
 use Rattle.bitvec_cells.specs.PutLaws.{part-numbers}
+use Rattle.bitvec_store.specs.Width.{IsWidth}
+use Rattle.bitvec_store.specs.WidthLaws.{at_each_width}
 
 -- whole elements from a window's first bit on lie in the memory
 whole-inside : {b : ℕ} {xs : List ℕ} {window : Window} (n : ℕ) → 0 < b → HasWindow b xs window → window.start % b ≡ 0 → n % b ≡ 0 → n ≤ window.len → window.start / b + n / b ≤ length xs
@@ -68,6 +70,29 @@ elements-copied value {b} {at} left right {new} {to} {from} some span edge right
     let numbers = part-numbers value (to.start / b) (to.start / b + to.len / b - to.start / b) left new (omega arith) in
     let part = ap (map value) is ∙ range-map value right (from.start / b) (from.start / b + to.len / b) in
     rw (numbers, part) wrote
+
+-- a window's whole elements, as a range of its bits
+pub record WholeRange (b s n f l : ℕ) : Type 0 where
+  pub front : s % b + f ≤ b
+  pub edge : (s + f) % b ≡ 0
+  pub order : f ≤ l
+  pub bound : l ≤ n
+  pub whole : (l - f) % b ≡ 0
+  pub back : (s + l) % b ≡ 0
+  pub rest : n ≤ l + b
+
+pub whole_range : (b s n : ℕ) → IsWidth b → b ≤ n → WholeRange b s n ((b - s % b) % b) (n - (n - (b - s % b) % b) % b)
+whole_range b s n width =
+    at_each_width (λ b. b ≤ n → WholeRange b s n ((b - s % b) % b) (n - (n - (b - s % b) % b) % b))
+    (λ fits. record { front = omega arith; edge = omega arith; order = omega arith; bound = omega arith; whole = omega arith; back = omega arith; rest = omega arith })
+    (λ fits. record { front = omega arith; edge = omega arith; order = omega arith; bound = omega arith; whole = omega arith; back = omega arith; rest = omega arith })
+    (λ fits. record { front = omega arith; edge = omega arith; order = omega arith; bound = omega arith; whole = omega arith; back = omega arith; rest = omega arith })
+    (λ fits. record { front = omega arith; edge = omega arith; order = omega arith; bound = omega arith; whole = omega arith; back = omega arith; rest = omega arith })
+    (λ fits. record { front = omega arith; edge = omega arith; order = omega arith; bound = omega arith; whole = omega arith; back = omega arith; rest = omega arith })
+    b width
+
+pub same-phase : (b s t n : ℕ) → s % b ≡ t % b → (s + n) % b ≡ (t + n) % b
+same-phase b s t n same = sym (mod-add-mod s b n) ∙ ap (λ m. (m + n) % b) same ∙ mod-add-mod t b n
 
 -- ---- the bits of one element
 

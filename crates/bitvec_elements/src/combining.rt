@@ -7,13 +7,14 @@ ghost use Rattle.bitvec_base.specs.Memory.{HasWindow, Writes, list_in};
 ghost use Rattle.bitvec_words.specs.Operator.{operator};
 
 use crate::converting::combine_converted;
-use crate::recutting::hold;
+use crate::recutting::{hold, room_of};
 use bitvec_base::{BitOrder, Window};
 use bitvec_cells::{Exclusive, Shared};
 use bitvec_engine::SliceOrder;
+use bitvec_few::is_few;
 use bitvec_passes::bits_op;
 use bitvec_store::BitStore;
-use bitvec_words::{BitOp, WORD_BITS, WordOrder};
+use bitvec_words::{BitOp, WordOrder};
 
 /// Replaces each bit of the left window by what the operator makes of it and the bit at its index in
 /// the right window, which may have elements of any type and order. Past its end the right window
@@ -32,7 +33,7 @@ pub fn combine_in<T: BitStore, O: BitOrder, U: BitStore, P: BitOrder>(
         (combined (operator op) (list_in T.BITS O.at (map T.value left.old) to)
         (list_in U.BITS P.at (map U.value right.now) from)) }
 {
-    if to.len > WORD_BITS && T::BITS == U::BITS {
+    if !is_few(to.len) && T::BITS == U::BITS {
         return_by_directions!(O, P, T => combine_converted::<_, T, U>(left, to, right, from, op));
     }
     return_by_direction!(O, T => combine_run::<_, T, U, P>(left, to, right, from, op));
@@ -78,7 +79,7 @@ fn combine_blocks<
 {
     T::fits_in_memory();
     let mut block = [T::ZERO; HELD];
-    let room = T::BITS as usize * HELD;
+    let room = room_of::<T>(HELD);
     let right_len = from.len;
     let mut start = 0;
     while start < to.len {

@@ -11,13 +11,13 @@ ghost use Rattle.bitvec_elements.specs.Difference.{DiffersFrom};
 
 use crate::converting::eq_converted;
 use crate::difference::{common_bits, common_words};
-use crate::window_words::few_word;
 use bitvec_base::{BitOrder, Window};
 use bitvec_cells::{Shared, get_bit};
 use bitvec_engine::SliceOrder;
+use bitvec_few::{is_few, load_parts};
 use bitvec_passes::elements_eq;
 use bitvec_store::BitStore;
-use bitvec_words::{WORD_BITS, WordOrder};
+use bitvec_words::WordOrder;
 use std::cmp::Ordering;
 
 /// How many equal bits [`compare_block_in`] passes at a time.
@@ -43,7 +43,7 @@ pub fn eq_in<T: BitStore, O: BitOrder, U: BitStore, P: BitOrder>(
     if left_window.len != right_window.len {
         return false;
     }
-    if left_window.len > WORD_BITS && T::BITS == U::BITS {
+    if !is_few(left_window.len) && T::BITS == U::BITS {
         return_by_directions!(O, P, T => eq_converted::<_, T, U>(left, left_window, right, right_window));
     }
     common_bits::<T, O, U, P>(left, left_window, right, right_window) == left_window.len
@@ -66,7 +66,7 @@ pub fn eq_block_in<T: BitStore, O: SliceOrder>(
     if left_window.len != right_window.len {
         return false;
     }
-    if left_window.len <= WORD_BITS {
+    if is_few(left_window.len) {
         return_by_direction!(O, T => eq_few::<_, T>(left, left_window, right, right_window));
     }
     eq_blocks_in::<T, O>(left, left_window, right, right_window)
@@ -114,7 +114,8 @@ fn eq_few<W: WordOrder, T: BitStore>(
     ensures { result ≡ same_bits (list_in T.BITS W.at (map T.value left.now) left_window)
         (list_in T.BITS W.at (map T.value right.now) right_window) }
 {
-    few_word::<W, T>(left, left_window) == few_word::<W, T>(right, right_window)
+    let word = load_parts::<W, Shared<T>>(&mut Shared::new(left), left_window);
+    word == load_parts::<W, Shared<T>>(&mut Shared::new(right), right_window)
 }
 
 /// How the bits of two windows compare, in the order of lists of truth values. Condition: as for

@@ -10,13 +10,14 @@ ghost use Rattle.bitvec_words.specs.Moves.{Copies};
 use crate::converting::copy_converted;
 use crate::copying_elements::{AT_ONCE_BITS, copy_elements_in, copy_whole_in};
 use crate::recutting::recut;
-use crate::window_words::{few_word, window_word};
+use crate::window_words::window_word;
 use bitvec_base::{BitOrder, Window};
 use bitvec_cells::{Exclusive, Shared};
 use bitvec_engine::{SliceOrder, direction_of};
-use bitvec_passes::{bits_copy, store_few};
+use bitvec_few::{is_few, load_parts, load_short, store_parts, store_short};
+use bitvec_passes::bits_copy;
 use bitvec_store::BitStore;
-use bitvec_words::{WORD_BITS, WordOrder, load_short, store_short};
+use bitvec_words::{WORD_BITS, WordOrder};
 
 /// Copies the bits of the right window, which may have elements of any type and order, to the left
 /// one. Condition: each memory has at most `MAX_BITS` bits, each window lies in its memory, and
@@ -33,7 +34,7 @@ pub fn copy_from_in<T: BitStore, O: BitOrder, U: BitStore, P: BitOrder>(
     ensures writes { Writes T.BITS O.at (map T.value left.old) (map T.value left.new) to
         (list_in U.BITS P.at (map U.value right.now) from) }
 {
-    if to.len > WORD_BITS && T::BITS == U::BITS {
+    if !is_few(to.len) && T::BITS == U::BITS {
         return_by_directions!(O, P, T => copy_converted::<_, T, U>(left, to, right, from));
     }
     return_by_direction!(O, T => recut::<_, P, T, U>(left, to, right, from));
@@ -61,7 +62,7 @@ pub(crate) fn copy_words<W: WordOrder, T: BitStore, U: BitStore, P: BitOrder>(
     while start < to.len {
         let end = start + WORD_BITS.min(to.len - start);
         let word = window_word::<W, P, U>(right, from.range(start, end), direction);
-        store_few::<W, Exclusive<T>>(&mut cells, to.range(start, end), word);
+        store_parts::<W, Exclusive<T>>(&mut cells, to.range(start, end), word);
         start = end;
     }
 }
@@ -81,7 +82,7 @@ pub fn copy_from_block_in<T: BitStore, O: SliceOrder>(
     ensures writes { Writes T.BITS O.at (map T.value left.old) (map T.value left.new) to
         (list_in T.BITS O.at (map T.value right.now) from) }
 {
-    if to.len <= WORD_BITS {
+    if is_few(to.len) {
         return_by_direction!(O, T => copy_few::<_, T>(left, to, right, from));
     }
     copy_from_long_block_in::<T, O>(left, to, right, from);
@@ -136,12 +137,12 @@ fn copy_few<W: WordOrder, T: BitStore>(left: &mut [T], to: Window, right: &[T], 
         (list_in T.BITS W.at (map T.value right.now) from) }
 {
     let mut cells = Exclusive::new(left);
+    let mut source = Shared::new(right);
     if to.len <= T::BITS as usize {
-        let mut source = Shared::new(right);
         let element = load_short::<W, Shared<T>>(&mut source, from);
         store_short::<W, Exclusive<T>>(&mut cells, to, element);
         return;
     }
-    let word = few_word::<W, T>(right, from);
-    store_few::<W, Exclusive<T>>(&mut cells, to, word);
+    let word = load_parts::<W, Shared<T>>(&mut source, from);
+    store_parts::<W, Exclusive<T>>(&mut cells, to, word);
 }

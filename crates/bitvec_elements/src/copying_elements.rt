@@ -1,5 +1,5 @@
 //! Windows that begin at the same index of an element, copied by whole elements at once.
-ghost use Rattle.std.specs.Prelude.{◌≡◌, ◌+◌, ◌%◌, ◌≤◌, map};
+ghost use Rattle.std.specs.Prelude.{◌≡◌, ◌+◌, ◌-◌, ◌%◌, ◌≤◌, map};
 ghost use Rattle.bitvec_base.specs.Spans.{HasSpan};
 ghost use Rattle.bitvec_words.specs.Moves.{Copies};
 
@@ -24,13 +24,28 @@ pub(crate) fn copy_elements_in<T: BitStore, O: BitOrder>(
     requires some { T.BITS ≤ to.len }
     ensures writes { Copies T.BITS O.at (map T.value left.old) (map T.value left.new) to (map T.value right.now) from }
 {
-    let bits = T::BITS as usize;
-    let first = (bits - to.start % bits) % bits;
-    let last = to.len - (to.len - first) % bits;
+    let (first, last) = whole_range::<T>(to);
     copy_part_in::<T, O>(left, to.range(0, first), right, from.range(0, first));
     copy_whole_in::<T, O>(left, to.range(first, last), right, from.range(first, last));
     let (place, source) = (to.range(last, to.len), from.range(last, to.len));
     copy_part_in::<T, O>(left, place, right, source);
+}
+
+/// The whole elements of a window, as a range of its bits. Condition: the window has as many bits as an element, or more.
+#[inline(always)]
+fn whole_range<T: BitStore>(window: Window) -> (usize, usize)
+    requires { T.BITS ≤ window.len }
+    ensures front { window.start % T.BITS + result.0 ≤ T.BITS }
+    ensures edge { (window.start + result.0) % T.BITS ≡ 0 }
+    ensures order { result.0 ≤ result.1 }
+    ensures bound { result.1 ≤ window.len }
+    ensures whole { (result.1 - result.0) % T.BITS ≡ 0 }
+    ensures back { (window.start + result.1) % T.BITS ≡ 0 }
+    ensures rest { window.len ≤ result.1 + T.BITS }
+{
+    let bits = T::BITS as usize;
+    let first = (bits - window.start % bits) % bits;
+    (first, window.len - (window.len - first) % bits)
 }
 
 /// Copies whole elements.

@@ -6,7 +6,7 @@ ghost use Rattle.bitvec_base.specs.Memory.{HasWindow, list_in};
 ghost use Rattle.bitvec_elements.specs.Difference.{DiffersFrom};
 
 use crate::comparing::eq_blocks_in;
-use crate::recutting::hold;
+use crate::recutting::{hold, room_of};
 use crate::window_words::window_word;
 use bitvec_base::{BitOrder, Lsb0, Msb0, Window};
 use bitvec_engine::{Direction, SliceOrder, direction_of};
@@ -71,7 +71,7 @@ fn common_blocks<
 {
     T::fits_in_memory();
     let mut block = [T::ZERO; HELD];
-    let room = T::BITS as usize * HELD;
+    let room = room_of::<T>(HELD);
     let most = left_window.len.min(right_window.len);
     let mut from = 0;
     while from < most {

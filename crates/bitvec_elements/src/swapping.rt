@@ -6,7 +6,7 @@ ghost use Rattle.bitvec_passes.specs.Pairs.{HasPair};
 ghost use Rattle.bitvec_base.specs.Memory.{HasWindow, Writes, list_in};
 
 use crate::copying::copy_from_in;
-use crate::recutting::hold;
+use crate::recutting::{hold, room_of};
 use bitvec_base::{BitOrder, Window};
 use bitvec_cells::Exclusive;
 use bitvec_engine::SliceOrder;
@@ -71,7 +71,7 @@ fn swap_blocks<W: WordOrder + SliceOrder, T: BitStore, U: BitStore, P: BitOrder,
 {
     T::fits_in_memory();
     let mut block = [T::ZERO; HELD];
-    let room = T::BITS as usize * HELD;
+    let room = room_of::<T>(HELD);
     let mut from = 0;
     while from < left_window.len {
         let to = from + room.min(left_window.len - from);

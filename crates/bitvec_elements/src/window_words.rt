@@ -1,19 +1,17 @@
-//! The bits of a window of a slice, up to 64 of them, as the first bits of a word under an order that
+//! The bits of a window of a slice, up to 64 of them under any order, as the first bits of a word under an order that
 //! runs from one end of it to the other.
-ghost use Rattle.std.specs.Prelude.{◌≡◌, ◌+◌, ◌/◌, ◌<◌, ◌≤◌, ◌↔◌, ◌⊎◌, map, min, slice_range, true};
+ghost use Rattle.std.specs.Prelude.{◌≡◌, ◌+◌, ◌≤◌, map, slice_range};
 ghost use Rattle.bitvec_base.specs.Memory.{HasWindow, element_bits, list_in};
-ghost use Rattle.bitvec_words.specs.Elements.{elements_window_from};
 ghost use Rattle.bitvec_words.specs.ShortWindow.{padded};
 ghost use Rattle.bitvec_elements.specs.BitsFrom.{HasBitsFrom};
 ghost use Rattle.bitvec_engine.specs.Direction.{HasDirection};
 
-use bitvec_base::{BitOrder, Lsb0, Msb0, Part, Window, elements_of};
+use bitvec_base::{BitOrder, Lsb0, Msb0, Part, Window};
 use bitvec_cells::{CellsRead, Shared};
 use bitvec_engine::Direction;
+use bitvec_few::load_parts;
 use bitvec_store::BitStore;
-use bitvec_words::{
-    WORD_BITS, WordOrder, gathered, joined, load_elements, load_parts, load_short, moved, reversed,
-};
+use bitvec_words::{WORD_BITS, WordOrder, gathered, moved, reversed};
 
 /// The 64 bits of a window from an index on as a word, with zeros past the window's end. Conditions:
 /// the window lies in a memory of at most `MAX_BITS` bits, the index is at most 64 behind its end,
@@ -50,9 +48,10 @@ pub(crate) fn window_word<W: WordOrder, O: BitOrder, T: BitStore>(
     ensures { element_bits 64 W.at result
         ≡ padded 64 (list_in T.BITS O.at (map T.value elements.now) window) }
 {
+    let mut cells = Shared::new(elements);
     match direction {
-        Direction::Up => reordered::<Lsb0, W>(run_word::<Lsb0, T>(elements, window)),
-        Direction::Down => reordered::<Msb0, W>(run_word::<Msb0, T>(elements, window)),
+        Direction::Up => reordered::<Lsb0, W>(load_parts::<Lsb0, Shared<T>>(&mut cells, window)),
+        Direction::Down => reordered::<Msb0, W>(load_parts::<Msb0, Shared<T>>(&mut cells, window)),
         Direction::Other => gathered_word::<W, O, T>(elements, window),
     }
 }
@@ -67,74 +66,6 @@ pub(crate) fn reordered<V: WordOrder, W: WordOrder>(word: u64) -> u64
     } else {
         reversed::<V, u64>(word)
     }
-}
-
-/// [`window_word`] of an order that runs from one end to the other: 64 bits of elements that aren't
-/// wider are loaded as one word.
-#[inline(always)]
-fn run_word<W: WordOrder, T: BitStore>(elements: &[T], window: Window) -> u64
-    requires window { HasWindow T.BITS (map T.value elements.now) window }
-    requires bound { window.len ≤ 64 }
-    ensures { element_bits 64 W.at result
-        ≡ padded 64 (list_in T.BITS W.at (map T.value elements.now) window) }
-{
-    if window.len == WORD_BITS && T::BITS <= u64::BITS {
-        return word_behind::<W, T>(elements, window.element::<T>(), window.phase::<T>());
-    }
-    let mut cells = Shared::new(elements);
-    load_parts::<W, Shared<T>>(&mut cells, window)
-}
-
-/// The 64 bits from the index `skip` of an element on: those of one word, and what is left of them with the next
-/// element. Conditions: elements are not wider than a word, and the bits lie in a memory of at most `MAX_BITS` bits.
-#[inline(always)]
-pub(crate) fn word_behind<W: WordOrder, T: BitStore>(
-    elements: &[T],
-    first: usize,
-    skip: usize,
-) -> u64
-    requires window { HasWindow T.BITS (map T.value elements.now) (elements_window_from T.BITS first skip (64 / T.BITS)) }
-    requires inside { skip < T.BITS }
-    requires narrow { T.BITS ≤ 64 }
-    ensures { element_bits 64 W.at result
-        ≡ list_in T.BITS W.at (map T.value elements.now) (elements_window_from T.BITS first skip (64 / T.BITS)) }
-{
-    let mut cells = Shared::new(elements);
-    let word = load_elements::<W, Shared<T>>(&mut cells, first);
-    if skip == 0 {
-        return word;
-    }
-    let next = elements[first + elements_of::<T>(WORD_BITS)];
-    let behind = moved::<W, T, u64>(next, 0, T::BITS as usize, 0);
-    joined::<W, u64>(word, behind, skip)
-}
-
-/// Whether that many bits are loaded and stored as a word with no loop: at most as many as an element has and at most 64, or
-/// exactly 64.
-#[inline(always)]
-pub fn is_few<T: BitStore>(len: usize) -> bool
-    ensures few { result ≡ true → len ≤ 64 }
-    ensures exact { (result ≡ true) ↔ ((len ≡ 64) ⊎ (len ≤ min 64 T.BITS)) }
-{
-    len == WORD_BITS || len <= WORD_BITS.min(T::BITS as usize)
-}
-
-/// The bits of a window as the first bits of a word under an order that runs from one end of it to the other, with
-/// no loop where the window is no longer than an element; the other bits are 0. Condition: the window has at most
-/// 64 bits and lies in a memory of at most `MAX_BITS` bits.
-#[inline(always)]
-pub fn few_word<W: WordOrder, T: BitStore>(elements: &[T], window: Window) -> u64
-    requires window { HasWindow T.BITS (map T.value elements.now) window }
-    requires bound { window.len ≤ 64 }
-    ensures { element_bits 64 W.at result
-        ≡ padded 64 (list_in T.BITS W.at (map T.value elements.now) window) }
-{
-    if window.len > T::BITS as usize {
-        return run_word::<W, T>(elements, window);
-    }
-    let mut cells = Shared::new(elements);
-    let front = load_short::<W, Shared<T>>(&mut cells, window);
-    moved::<W, T, u64>(front, 0, window.len, 0)
 }
 
 /// [`window_word`] of any order: each element is loaded once, and its bits are gathered one by one.

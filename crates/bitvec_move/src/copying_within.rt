@@ -13,7 +13,8 @@ ghost use Rattle.bitvec_words.specs.Moves.{Copies};
 use crate::moving::move_to;
 use bitvec_base::Window;
 use bitvec_cells::Cells;
-use bitvec_words::{WORD_BITS, WordOrder, load_parts, store_parts};
+use bitvec_few::{is_few, load_parts, store_parts};
+use bitvec_words::WordOrder;
 
 /// Copies the bits `from..to` of a window to `dest` on, also where they overlap; all other bits of
 /// the memory stay. Condition: the memory has at most `MAX_BITS` bits, the window lies in it,
@@ -47,7 +48,7 @@ fn move_window<O: WordOrder, C: Cells>(cells: &mut C, to: Window, from: Window)
     ensures writes { Copies C.Elem.BITS O.at (C.numbers cells.old) (C.numbers cells.new) to (C.numbers cells.old) from }
     ensures cost { CostsAtMost C.CellsRead cells.old cells.new (edit_loads C.Elem.BITS true to.len) (write_stores C.Elem.BITS true to.len) }
 {
-    if to.len <= WORD_BITS {
+    if is_few(to.len) {
         let word = load_parts::<O, C>(cells, from);
         store_parts::<O, C>(cells, to, word);
         return;

@@ -12,11 +12,9 @@ use crate::moving_words::{goes_by_words, shift_words};
 use crate::{head_of, whole_bits};
 use bitvec_base::{BitOrder, Window};
 use bitvec_cells::{Cells, CellsRead};
+use bitvec_few::{load_short, store_short};
 use bitvec_store::BitStore;
-use bitvec_words::{
-    Carried, Lanes, Stretch, Whole, WordOrder, at_known_skip, known_skip_pays, load_short,
-    store_short,
-};
+use bitvec_words::{Carried, Lanes, Stretch, Whole, WordOrder, at_known_skip, known_skip_pays};
 
 /// How many whole elements are moved in a turn: so many that the compiler makes vectors of them before it unrolls the turn. By
 /// its own choice a turn has two vectors, and takes up to twice as long where its jump falls badly.

@@ -4,11 +4,9 @@
 mod by_bits;
 mod by_elements;
 mod reversing;
-mod storing;
 
 pub use by_bits::{
     bits_copy, bits_copy_within, bits_eq, bits_op, bits_reverse, bits_swap, compare,
 };
 pub use by_elements::{elements_copy, elements_eq, elements_op, elements_swap};
 pub use reversing::words_reverse;
-pub use storing::store_few;

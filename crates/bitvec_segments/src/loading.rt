@@ -9,8 +9,9 @@ use crate::joining::joined_number;
 use crate::part::{number_between, part_number};
 use bitvec_base::Window;
 use bitvec_cells::CellsRead;
+use bitvec_few::load_element;
 use bitvec_store::BitStore;
-use bitvec_words::{WORD_BITS, WordOrder, load_element, load_elements};
+use bitvec_words::{WORD_BITS, WordOrder, load_elements};
 
 /// The number of a window's segments. Condition: the window has at most 128 bits, and lies in a
 /// memory of at most `MAX_BITS` bits. It loads each element that the window touches once.

@@ -5,7 +5,6 @@
 mod candidates;
 mod combining_within;
 mod copying_within;
-mod few;
 mod needles;
 mod reversing;
 mod rotating;

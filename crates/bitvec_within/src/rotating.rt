@@ -7,13 +7,14 @@ ghost use Rattle.bitvec_base.specs.Memory.{Edits, HasWindow, element_bits};
 ghost use Rattle.bitvec_words.specs.ShortWindow.{padded};
 
 use crate::copying_within::copy_within_in;
-use crate::few::store_few_in;
 use crate::swapping_within::swap_ranges;
 use bitvec_base::Window;
-use bitvec_elements::{copy_from_long_block_in, few_word, return_by_direction};
+use bitvec_cells::{Exclusive, Shared};
+use bitvec_elements::{copy_from_long_block_in, return_by_direction};
 use bitvec_engine::SliceOrder;
+use bitvec_few::{is_few, load_parts, store_parts};
 use bitvec_store::BitStore;
-use bitvec_words::{WORD_BITS, WordOrder, moved};
+use bitvec_words::{WordOrder, moved};
 
 /// Rotates the bits of a window so that the bit at `by` comes first. Condition: the memory has at
 /// most `MAX_BITS` bits, the window lies in it, and `by` is at most the window's length. At most 64 bits
@@ -23,7 +24,7 @@ pub fn rotate_left_in<T: BitStore, O: SliceOrder>(elements: &mut [T], window: Wi
     requires bound { by ≤ window.len }
     ensures writes { Edits T.BITS O.at (map T.value elements.old) (map T.value elements.new) window (rotated_left by) }
 {
-    if window.len <= WORD_BITS {
+    if is_few(window.len) {
         return_by_direction!(O, T => rotate_few::<_, T>(elements, window, by));
     }
     rotate_many::<T, O>(elements, window, by);
@@ -46,9 +47,9 @@ fn rotate_few<W: WordOrder, T: BitStore>(elements: &mut [T], window: Window, by:
     requires few { window.len ≤ 64 }
     ensures writes { Edits T.BITS W.at (map T.value elements.old) (map T.value elements.new) window (rotated_left by) }
 {
-    let word = few_word::<W, T>(&*elements, window);
+    let word = load_parts::<W, Shared<T>>(&mut Shared::new(&*elements), window);
     let rotated = rotated_word::<W>(word, window.len, by);
-    store_few_in::<W, T>(elements, window, rotated);
+    store_parts::<W, Exclusive<T>>(&mut Exclusive::new(elements), window, rotated);
 }
 
 /// The word whose first `len` bits are those of `word` rotated so that the one at `by` comes first; the

@@ -5,17 +5,17 @@ ghost use Rattle.std.specs.Prelude.{◌≡◌, ◌%◌, ◌≤◌, ◌==◌, map
 ghost use Rattle.bitvec_base.specs.Lists.{shifted_end, shifted_start};
 ghost use Rattle.bitvec_base.specs.Memory.{Edits, HasWindow};
 
-use crate::few::store_few_in;
 use bitvec_base::Window;
-use bitvec_cells::Exclusive;
-use bitvec_elements::{few_word, is_few, return_by_direction};
+use bitvec_cells::{Exclusive, Shared};
+use bitvec_elements::return_by_direction;
 use bitvec_engine::{SliceOrder, shift_end, shift_start};
+use bitvec_few::{is_few, load_parts, store_parts};
 use bitvec_store::BitStore;
 use bitvec_words::{WORD_BITS, WordOrder, moved};
 
 /// Shifts the bits of a window towards its start, and zeros in at its end. Condition: the memory has at
 /// most `MAX_BITS` bits, the window lies in it, and `by` is at most the window's length. Under an order that
-/// runs from one end of an element to the other, few bits are shifted as a word. So are the last 64 of more
+/// runs from one end of an element to the other, at most 64 bits are shifted as a word. So are the last 64 of more
 /// where `by` is below 64 and the window ends with an element.
 pub fn shift_start_in<T: BitStore, O: SliceOrder>(elements: &mut [T], window: Window, by: usize)
     requires window { HasWindow T.BITS (map T.value elements.old) window }
@@ -58,11 +58,11 @@ fn shift_start_run<W: WordOrder + SliceOrder, T: BitStore>(
     requires bound { by ≤ window.len }
     ensures writes { Edits T.BITS W.at (map T.value elements.old) (map T.value elements.new) window (shifted_start by) }
 {
-    if is_few::<T>(window.len) {
+    if is_few(window.len) {
         return shift_start_few::<W, T>(elements, window, by);
     }
     let mut accessor = Exclusive::new(&mut *elements);
-    if by < WORD_BITS && window.len > WORD_BITS && is_edge::<T>(window.start + window.len) {
+    if by < WORD_BITS && is_edge::<T>(window.start + window.len) {
         let rest = window.len - WORD_BITS;
         W::block_copy_within::<Exclusive<T>>(&mut accessor, window, by, by + rest, 0);
         return shift_start_few::<W, T>(elements, window.range(rest, window.len), by);
@@ -81,11 +81,11 @@ fn shift_end_run<W: WordOrder + SliceOrder, T: BitStore>(
     requires bound { by ≤ window.len }
     ensures writes { Edits T.BITS W.at (map T.value elements.old) (map T.value elements.new) window (shifted_end by) }
 {
-    if is_few::<T>(window.len) {
+    if is_few(window.len) {
         return shift_end_few::<W, T>(elements, window, by);
     }
     let mut accessor = Exclusive::new(&mut *elements);
-    if by < WORD_BITS && window.len > WORD_BITS && is_edge::<T>(window.start) {
+    if by < WORD_BITS && is_edge::<T>(window.start) {
         let (from, to) = (WORD_BITS - by, window.len - by);
         W::block_copy_within::<Exclusive<T>>(&mut accessor, window, from, to, WORD_BITS);
         return shift_end_few::<W, T>(elements, window.range(0, WORD_BITS), by);
@@ -101,9 +101,9 @@ fn shift_start_few<W: WordOrder, T: BitStore>(elements: &mut [T], window: Window
     requires few { window.len ≤ 64 }
     ensures writes { Edits T.BITS W.at (map T.value elements.old) (map T.value elements.new) window (shifted_start by) }
 {
-    let word = few_word::<W, T>(&*elements, window);
+    let word = load_parts::<W, Shared<T>>(&mut Shared::new(&*elements), window);
     let shifted = moved::<W, u64, u64>(word, by, window.len - by, 0);
-    store_few_in::<W, T>(elements, window, shifted);
+    store_parts::<W, Exclusive<T>>(&mut Exclusive::new(elements), window, shifted);
 }
 
 /// [`shift_end_in`] of few bits, as a word.
@@ -114,7 +114,7 @@ fn shift_end_few<W: WordOrder, T: BitStore>(elements: &mut [T], window: Window, 
     requires few { window.len ≤ 64 }
     ensures writes { Edits T.BITS W.at (map T.value elements.old) (map T.value elements.new) window (shifted_end by) }
 {
-    let word = few_word::<W, T>(&*elements, window);
+    let word = load_parts::<W, Shared<T>>(&mut Shared::new(&*elements), window);
     let shifted = moved::<W, u64, u64>(word, 0, window.len - by, by);
-    store_few_in::<W, T>(elements, window, shifted);
+    store_parts::<W, Exclusive<T>>(&mut Exclusive::new(elements), window, shifted);
 }

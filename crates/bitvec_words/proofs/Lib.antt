@@ -8,7 +8,6 @@ pub mod OrderedLemmas
 pub mod PlaceLemmas
 pub mod ScanLemmas
 pub mod ShiftedLaws
-mod ShortLemmas
 pub mod SliceWordLemmas
 pub mod SplitLemmas
 pub mod TurnLemmas

@@ -15,11 +15,6 @@ use Rattle.bitvec_cells.specs.WalkLaws.{Writes-next_part, length-first, length-p
 use Rattle.bitvec_words.specs.ShortWindow.{padded}
 use Rattle.bitvec_words.specs.FieldLaws.{list-part}
 use Rattle.bitvec_words.specs.MovedLaws.{element-joined, word-there, take-range}
-use Rattle.bitvec_words.specs.WholeLaws.{HasWindow-part}
-
--- what is left of a window is one of the memory
-pub HasWindow-rest : {b : ℕ} {xs : List ℕ} {window rest : Window} → HasWindow b xs window → Walked b window rest → HasWindow b xs rest
-HasWindow-rest {b} {xs} {window} {rest} has walk = let end = walk.end in HasWindow-part rest has walk.start (omega arith)
 
 -- a part of what is left is one of an element of the memory
 pub HasPart-first : {b : ℕ} {xs : List ℕ} {window rest : Window} → 0 < b → 0 < rest.len → HasWindow b xs window → Walked b window rest → HasPart b xs (first_part_of b rest)

@@ -1,5 +1,5 @@
-//! Elements as words: their bits moved, joined, merged and reversed many at a time; parts of elements and fields of
-//! words, loaded and stored; windows filled, flipped, counted and searched.
+//! Elements as words: their bits moved, joined, merged and reversed many at a time; parts of elements stored, and the
+//! elements of a word loaded and stored; windows filled, flipped, counted and searched.
 #![tactic(auto)]
 
 mod carried;
@@ -28,10 +28,10 @@ pub use fronts::{bits_load_front, bits_lowest_first, gathered, words_load_front}
 pub use known_skip::known_skip_pays;
 pub use lanes::Lanes;
 pub use operator::BitOp;
-pub use part::{load_element, load_element_after, load_short, store_part, store_short};
+pub use part::store_part;
 pub use scanning::{bits_scan_first, bits_scan_last};
 pub use scanning_words::words_scan_first;
 pub use stretch::Stretch;
 pub use word_elements::{load_elements, store_elements};
 pub use word_order::WordOrder;
-pub use word_parts::{WORD_BITS, load_parts, moved, store_parts};
+pub use word_parts::{WORD_BITS, moved};

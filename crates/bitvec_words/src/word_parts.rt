@@ -1,16 +1,10 @@
-//! Up to 64 bits of a window as the first bits of a word, and bits of one element at other indices of another.
-ghost use Rattle.std.specs.Prelude.{◌≡◌, ◌+◌, ◌≤◌, false, replicate, slice_range, take};
-ghost use Rattle.bitvec_base.specs.Memory.{HasWindow, Writes, element_bits, list_in};
+//! Bits of one element at other indices of another.
+ghost use Rattle.std.specs.Prelude.{◌≡◌, ◌+◌, ◌≤◌, false, replicate, slice_range};
+ghost use Rattle.bitvec_base.specs.Memory.{element_bits};
 ghost use Rattle.bitvec_base.specs.Window.{write_at};
-ghost use Rattle.bitvec_cells.specs.Access.{CostsAtMost, OnlyReads};
-ghost use Rattle.bitvec_cells.specs.Cost.{fill_loads, touched_count};
-ghost use Rattle.bitvec_words.specs.ShortWindow.{lowest_bit, padded};
+ghost use Rattle.bitvec_words.specs.ShortWindow.{lowest_bit};
 
 use crate::WordOrder;
-use crate::part::store_part;
-use crate::split::split_head;
-use bitvec_base::Window;
-use bitvec_cells::{Cells, CellsRead};
 use bitvec_store::BitStore;
 
 /// The most bits that a word has.
@@ -52,41 +46,4 @@ pub fn moved<O: WordOrder, T: BitStore, U: BitStore>(
     let mask = T::ALL.shr(T::BITS - len as u32);
     let word = element.shr(down as u32).and(mask);
     U::from_u128(word.to_u128()).shl(up as u32)
-}
-
-/// The bits of a window as the first bits of a word; the others are 0. Condition: the window has at most 64 bits,
-/// and lies in a memory of at most `MAX_BITS` bits. It loads each element that the window touches once.
-pub fn load_parts<O: WordOrder, C: CellsRead>(cells: &mut C, window: Window) -> u64
-    requires window { HasWindow C.Elem.BITS (C.numbers cells.old) window }
-    requires bound { window.len ≤ 64 }
-    ensures value { element_bits 64 O.at result ≡ padded 64 (list_in C.Elem.BITS O.at (C.numbers cells.old) window) }
-    ensures reads { OnlyReads C.CellsRead cells.old cells.new (touched_count C.Elem.BITS window.start window.len) }
-{
-    let mut word = 0;
-    let mut rest = window;
-    while rest.len > 0 {
-        let (part, behind) = split_head::<C::Elem>(rest);
-        let element = cells.load(part.element);
-        word |= moved::<O, C::Elem, u64>(element, part.from, part.len(), window.len - rest.len);
-        rest = behind;
-    }
-    word
-}
-
-/// A window gets the first bits of a word, as many as it has; all other bits of the memory stay. Condition: as for
-/// [`load_parts`]. It stores each element that the window touches once, and loads at most the first and the last.
-pub fn store_parts<O: WordOrder, C: Cells>(cells: &mut C, window: Window, word: u64)
-    requires window { HasWindow C.Elem.BITS (C.numbers cells.old) window }
-    requires bound { window.len ≤ 64 }
-    ensures writes { Writes C.Elem.BITS O.at (C.numbers cells.old) (C.numbers cells.new) window
-        (take window.len (element_bits 64 O.at word)) }
-    ensures cost { CostsAtMost C.CellsRead cells.old cells.new (fill_loads window.len) (touched_count C.Elem.BITS window.start window.len) }
-{
-    let mut rest = window;
-    while rest.len > 0 {
-        let (part, behind) = split_head::<C::Elem>(rest);
-        let element = moved::<O, u64, C::Elem>(word, window.len - rest.len, part.len(), part.from);
-        store_part::<O, C>(cells, part, element);
-        rest = behind;
-    }
 }

@@ -27,4 +27,5 @@ loop-start-preserved g c =
 pub returns : goal.returns
 returns g c =
     let long = length-list g.W.BitOrder.at c.requires.window in
-    record { writes = stretch-all c.args.to c.loop-start.start (omega arith) (length-combined (operator c.args.op) _ _ ∙ long) c.loop-start.invariant.writes }
+    let list = combined (operator c.args.op) (list_in g.T.BitStore.BITS g.W.BitOrder.at (map g.T.BitStore.value c.args.left.now) c.args.to) (list_in g.U.BitStore.BITS g.P.BitOrder.at (map g.U.BitStore.value c.args.right.now) c.args.from) in
+    record { writes = stretch-all c.args.to {list = list} c.loop-start.start (omega arith) (length-combined (operator c.args.op) _ _ ∙ long) c.loop-start.invariant.writes }

@@ -1,19 +1,16 @@
-use Rattle.std.proofs.Common.{◌≤◌, ◌-◌, ◌%◌, arith}
-use Rattle.std.proofs.lemmas.Nat.{mod_below}
-use Rattle.bitvec_store.specs.WidthLaws.{width_some}
+use Rattle.std.proofs.Common.{◌∙◌, sym}
+use Rattle.bitvec_elements.proofs.ElementLemmas.{same-phase}
 use Rattle.bitvec_elements.proofs.StoreLemmas.{stretches-copied}
 use Rattle.bitvec_elements.proofs.copying_elements.copy_elements_in.Goals as goal
 
+pub copy_whole_in-requires-clause-right_edge : goal.copy_whole_in-requires-clause-right_edge
+copy_whole_in-requires-clause-right_edge g c = rw c.range-4.ensures (sym (same-phase _ _ _ _ c.requires.phases) ∙ c.whole_range-first.ensures.edge)
+
+pub copy_part_in-requires-2-clause-phases : goal.copy_part_in-requires-2-clause-phases
+copy_part_in-requires-2-clause-phases g c = rw (c.range-place.ensures, c.range-source.ensures) (same-phase _ _ _ _ c.requires.phases)
+
 pub returns : goal.returns
-returns g c =
-    let b = g.T.BitStore.BITS in
-    let some = c.requires.some in
-    let f = (c.BITS-bits.result - c.args.to.start % c.BITS-bits.result) % c.BITS-bits.result in
-    let width = c.BITS-bits.ensures in
-    let most : f ≤ b = rw width (omega (arith, mod_below (b - c.args.to.start % b) b (width_some _ g.met.T.BitStore.width_law))) in
-    let below = mod_below (c.args.to.len - f) b (width_some _ g.met.T.BitStore.width_law) in
-    let l = c.args.to.len - (c.args.to.len - f) % c.BITS-bits.result in
-    record {
-      writes = stretches-copied _ c.args.to c.args.from f l (record { window = c.requires.span.window; beside = c.requires.span.beside; lengths = c.requires.span.lengths }) (omega arith) (omega arith)
-          c.range.ensures c.range-2.ensures c.copy_part_in.ensures.writes c.range-3.ensures c.range-4.ensures c.copy_whole_in.ensures.writes c.range-place.ensures c.range-source.ensures c.copy_part_in-2.ensures.writes;
-    }
+returns g c = record {
+  writes = stretches-copied _ c.args.to c.args.from _ _ (record { window = c.requires.span.window; beside = c.requires.span.beside; lengths = c.requires.span.lengths }) c.whole_range-first.ensures.order c.whole_range-first.ensures.bound
+      c.range.ensures c.range-2.ensures c.copy_part_in.ensures.writes c.range-3.ensures c.range-4.ensures c.copy_whole_in.ensures.writes c.range-place.ensures c.range-source.ensures c.copy_part_in-2.ensures.writes;
+}

@@ -1,4 +1,4 @@
-use Rattle.std.proofs.Common.{◌+◌, ◌∙◌, arith, sym}
+use Rattle.std.proofs.Common.{◌≡◌, ◌+◌, ◌*◌, ◌∙◌, arith, length, sym}
 use Rattle.bitvec_base.specs.CompareLaws.{same-stretch}
 use Rattle.bitvec_base.specs.WritesLaws.{length-list, list-after, list-range}
 use Rattle.bitvec_elements.proofs.DifferenceLemmas.{differs-behind}
@@ -18,6 +18,11 @@ returns-then-not-eq_blocks_in g c =
     let right = length-list g.P.BitOrder.at c.requires.right_window in
     let behind = rw (c.after-rest.ensures, c.after-other.ensures, list-after g.W.BitOrder.at c.loop-from.from c.requires.window (omega arith), list-after g.P.BitOrder.at c.loop-from.from c.requires.right_window (omega arith)) at c.common_words.ensures in
     differs-behind c.loop-from.from (omega arith) c.loop-from.invariant.same behind
+
+pub hold-held-requires-clause-room : goal.hold-held-requires-clause-room
+hold-held-requires-clause-room g c =
+    let all : g.T.BitStore.BITS * length c.loop-from.block ≡ c.room_of-room.result = rw c.loop-from.invariant.count (sym c.room_of-room.ensures.value) in
+    rw c.range.ensures (omega arith)
 
 pub loop-from-preserved : goal.loop-from-preserved
 loop-from-preserved g c =

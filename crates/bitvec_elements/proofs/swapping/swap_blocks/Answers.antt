@@ -1,9 +1,9 @@
-use Rattle.std.proofs.Common.{arith, map, refl, sym, ◌∙◌}
+use Rattle.std.proofs.Common.{◌≡◌, ◌*◌, arith, length, map, refl, sym, ◌∙◌}
 use Rattle.std.proofs.lemmas.List.{length-map, length-replicate}
 use Rattle.bitvec_base.specs.Memory.{list_in}
 use Rattle.bitvec_base.specs.WritesLaws.{Writes-holds, length-list}
 use Rattle.bitvec_elements.proofs.RecutLemmas.{block-swapped}
-use Rattle.bitvec_elements.proofs.StoreLemmas.{stretch-all, stretch-none}
+use Rattle.bitvec_elements.proofs.StoreLemmas.{range-kept, stretch-all, stretch-none}
 use Rattle.bitvec_elements.proofs.swapping.swap_blocks.Goals as goal
 
 pub loop-from-init : goal.loop-from-init
@@ -13,6 +13,15 @@ loop-from-init g c = record {
   writes = stretch-none _ _ _ _ c.args.left_window (list_in g.U.BitStore.BITS g.P.BitOrder.at (map g.U.BitStore.value c.args.right.now) c.args.right_window) c.requires.pair.window refl;
   right_writes = stretch-none _ _ _ _ c.args.right_window (list_in g.T.BitStore.BITS g.W.BitOrder.at (map g.T.BitStore.value c.args.left.now) c.args.left_window) c.requires.pair.beside refl;
 }
+
+pub hold-held-requires-clause-window : goal.hold-held-requires-clause-window
+hold-held-requires-clause-window g c =
+    range-kept _ _ _ _ _ _ _ c.requires.pair.beside c.loop-from.invariant.right_writes.elements c.range-other.ensures (omega arith) (let lengths = c.requires.pair.lengths in omega arith)
+
+pub hold-held-requires-clause-room : goal.hold-held-requires-clause-room
+hold-held-requires-clause-room g c =
+    let all : g.T.BitStore.BITS * length c.loop-from.block ≡ c.room_of-room.result = rw c.loop-from.invariant.count (sym c.room_of-room.ensures.value) in
+    rw c.range-other.ensures (omega arith)
 
 pub loop-from-preserved : goal.loop-from-preserved
 loop-from-preserved g c =
@@ -32,7 +41,9 @@ returns g c =
     let lengths = c.requires.pair.lengths in
     let long = length-list g.W.BitOrder.at c.requires.pair.window in
     let right_long = length-list g.P.BitOrder.at c.requires.pair.beside in
+    let list = list_in g.T.BitStore.BITS g.W.BitOrder.at (map g.T.BitStore.value c.args.left.now) c.args.left_window in
+    let right_list = list_in g.U.BitStore.BITS g.P.BitOrder.at (map g.U.BitStore.value c.args.right.now) c.args.right_window in
     record {
-      writes = stretch-all c.args.left_window c.loop-from.from (omega arith) (right_long ∙ sym lengths) inv.writes;
-      right_writes = stretch-all c.args.right_window c.loop-from.from (omega arith) (long ∙ lengths) inv.right_writes;
+      writes = stretch-all c.args.left_window {list = right_list} c.loop-from.from (omega arith) (right_long ∙ sym lengths) inv.writes;
+      right_writes = stretch-all c.args.right_window {list = list} c.loop-from.from (omega arith) (long ∙ lengths) inv.right_writes;
     }

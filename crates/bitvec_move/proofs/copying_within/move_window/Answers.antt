@@ -7,14 +7,14 @@ use Rattle.bitvec_move.proofs.WithinLaws.{late-read, late-stored}
 use Rattle.bitvec_move.proofs.MoveLemmas.{touched-read, touched-stored}
 use Rattle.bitvec_move.proofs.copying_within.move_window.Goals as goal
 
-pub returns-then-to-le-WORD_BITS-clause-writes : goal.returns-then-to-le-WORD_BITS-clause-writes
-returns-then-to-le-WORD_BITS-clause-writes g c =
+pub returns-then-is_few-clause-writes : goal.returns-then-is_few-clause-writes
+returns-then-is_few-clause-writes g c =
     let long = length-list g.O.BitOrder.at c.requires.beside in
     Writes-is (rw c.load_parts-word.ensures.reads.numbers at c.store_parts.ensures.writes)
     (take-word 64 _ c.load_parts-word.ensures.value (c.requires.lengths ∙ sym long))
 
-pub returns-then-to-le-WORD_BITS-clause-cost : goal.returns-then-to-le-WORD_BITS-clause-cost
-returns-then-to-le-WORD_BITS-clause-cost g c =
+pub returns-then-is_few-clause-cost : goal.returns-then-is_few-clause-cost
+returns-then-is_few-clause-cost g c =
     let some = width_some _ g.met.C.Elem.BitStore.width_law in
     let loads = touched-read g.C.Elem.BitStore.BITS c.args.from.start some c.requires.lengths in
     let edges = edges_loaded g.C.Elem.BitStore.BITS true c.args.to.len in

@@ -5,6 +5,21 @@ use Rattle.bitvec_store.specs.WidthLaws.{width_some}
 use Rattle.bitvec_passes.proofs.MirroredLemmas.{amid-moved}
 use Rattle.bitvec_passes.proofs.reversing.in_phase.Goals as goal
 
+pub overflow_sub-before : goal.overflow_sub-before
+overflow_sub-before g c =
+    let before = c.requires.before in
+    let below = mod_below c.args.other.start g.T.BitStore.BITS (width_some _ g.met.T.BitStore.width_law) in
+    omega arith
+
+pub overflow_sub-place : goal.overflow_sub-place
+overflow_sub-place g c =
+    let before = c.requires.before in
+    let below = mod_below (c.args.window.start - c.phase-skip.result) g.T.BitStore.BITS (width_some _ g.met.T.BitStore.width_law) in
+    omega arith
+
+pub move_elements-requires-clause-bound : goal.move_elements-requires-clause-bound
+move_elements-requires-clause-bound g c = rw c.phase-by.ensures (mod_below _ g.T.BitStore.BITS (width_some _ g.met.T.BitStore.width_law))
+
 pub returns-then-by-gt0-clause-list : goal.returns-then-by-gt0-clause-list
 returns-then-by-gt0-clause-list g c =
     let before = c.requires.before in

@@ -1,4 +1,4 @@
-use Rattle.std.proofs.Common.{◌∙◌, arith}
+use Rattle.std.proofs.Common.{◌∙◌, arith, rules}
 use Rattle.bitvec_base.specs.LengthLaws.{length-shifted_end}
 use Rattle.bitvec_base.specs.Lists.{shifted_end}
 use Rattle.bitvec_base.specs.MemoryLaws.{length-element_bits}
@@ -10,4 +10,5 @@ pub returns : goal.returns
 returns g c =
     let long = length-list g.W.BitOrder.at c.requires.window in
     let moved = c.moved-shifted.ensures ∙ shifted-end_word 64 _ _ c.args.by (length-element_bits 64 _ _) c.requires.bound c.requires.few in
-    record { writes = few-edited (shifted_end c.args.by) c.requires.window c.few_word-word.ensures moved (length-shifted_end _ _ (omega arith) ∙ long) c.store_few_in.ensures.writes }
+    let done = few-edited (shifted_end c.args.by) c.requires.window (rw c.new.ensures.numbers at c.load_parts-word.ensures.value) moved (length-shifted_end _ _ (omega arith) ∙ long) (rw c.new-2.ensures.numbers at c.store_parts.ensures.writes) in
+    record { writes = record { bits = search (rules, done.bits); long = done.long; elements = search (rules, done.elements) } }

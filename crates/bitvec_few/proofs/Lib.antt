@@ -1,0 +1,2 @@
+pub mod FewLemmas
+mod ShortLemmas
