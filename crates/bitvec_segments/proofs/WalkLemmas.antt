@@ -188,13 +188,6 @@ Left-next big high {b} {at} old {now} {mid} window {rest} {t} v turn has fits le
 pub whole-none : (b : ℕ) (part : Part) → part.to - part.from ≡ b → part_loads b part ≡ 0
 whole-none b part all = cond-true (eqb (part.to - part.from) b) 0 1 (eq-eqb (part.to - part.from) b all)
 
--- ---- the first part of a window that begins where an element does
-
-pub edge-place : {b e : ℕ} (window : Window) → 0 < b → window.start ≡ e * b → (e ≡ window.start / b) × (0 ≡ window.start % b)
-edge-place {b} {e} window some edge =
-    let start : window.start ≡ e * b + 0 = omega arith in
-    (sym (ap (λ (n : ℕ). n / b) start ∙ div-mul-add e b 0 some), sym (ap (λ (n : ℕ). n % b) start ∙ mod-mul-add e b 0 some))
-
 -- ---- the first part of a window from a place on
 
 -- bits are left as long as elements are
@@ -215,7 +208,8 @@ next-place {b} {rest} {t} turn less =
     let place = div-add-mod' rest.start b in
     let head = mod_below rest.start b turn.some in
     let step = turn.step in
-    edge-place (window_after t rest) turn.some (omega arith)
+    let start : rest.start + t ≡ (rest.start / b + 1) * b + 0 = omega arith in
+    (sym (ap (λ (n : ℕ). n / b) start ∙ div-mul-add (rest.start / b + 1) b 0 turn.some), sym (ap (λ (n : ℕ). n % b) start ∙ mod-mul-add (rest.start / b + 1) b 0 turn.some))
 
 -- where the first bit of a window stands, if there is one
 abbrev pub Begins : ℕ → Window → ℕ → ℕ → ℕ → Type 0
