@@ -1,5 +1,5 @@
 //! The whole program, but for what a process is.
-ghost use Rattle.std.specs.Prelude.{◌≡◌, ◌⊎◌, length, map, string_bytes, IfOk, IfErr, None};
+ghost use Rattle.std.specs.Prelude.{◌≡◌, ◌⊎◌, length, map, string_bytes, IfOk, IfErr, None, Some};
 ghost use Rattle.std.specs.Io.KnownBytes.{Appends};
 ghost use Rattle.bitvec_run.specs.Runs.{FailsRun};
 ghost use Rattle.bitdo_work.specs.Arguments.{request, request_of, typed_request, ordered_request, own_request};
@@ -48,6 +48,30 @@ struct Outcome<T, A: Allocator> {
     memory: Vec<T, A>,
 }
 
+/// Makes the run of the input's steps on the elements.
+fn run_input<'a, T: BitStore, O: SliceOrder, A: Allocator, R: Read>(
+    alloc: &'a A,
+    mut memory: Vec<T, &'a A>,
+    window: Window,
+    right: &[T],
+    input: &mut R,
+) -> Result<Outcome<T, &'a A>, Fault>
+    ensures run { IfOk result (λ outcome. HasRun (Some (request T.BITS O.at (map T.value memory.entry.items) (map T.value right.now) window))
+        (R.remaining input.old) (R.remaining input.new) outcome.replies.items (map T.value outcome.memory.items)) }
+    ensures fault { IfErr result (HasFault (Some (request T.BITS O.at (map T.value memory.entry.items) (map T.value right.now) window))
+        (R.remaining input.old) (R.remaining input.new)) }
+{
+    let steps = read_steps(alloc, input)?;
+    let replies = run_elements::<T, O, _>(
+        alloc,
+        memory.as_mut_slice(),
+        window,
+        right,
+        steps.as_slice(),
+    )?;
+    Ok(Outcome { replies, memory })
+}
+
 /// Makes the run of the arguments and the input. Memories that aren't in the notation are a fault before room is,
 /// and before the input is read.
 fn make_run<'a, T: BitStore, O: SliceOrder, A: Allocator, R: Read>(
@@ -67,17 +91,9 @@ fn make_run<'a, T: BitStore, O: SliceOrder, A: Allocator, R: Read>(
     let Some(right) = parse_elements(alloc, arguments.right) else {
         return Err(Fault::Arguments);
     };
-    let mut memory = memory?;
+    let memory = memory?;
     let right = right?;
-    let steps = read_steps(alloc, input)?;
-    let replies = run_elements::<T, O, _>(
-        alloc,
-        memory.as_mut_slice(),
-        arguments.window,
-        right.as_slice(),
-        steps.as_slice(),
-    )?;
-    Ok(Outcome { replies, memory })
+    run_input::<T, O, _, _>(alloc, memory, arguments.window, right.as_slice(), input)
 }
 
 /// Prints why no run was made. The result is the status.

@@ -10,7 +10,7 @@ use Rattle.bitvec_base.specs.Window.{window_range}
 use Rattle.bitvec_base.specs.WritesLaws.{length-list, list-range}
 use Rattle.bitvec_places.specs.declared.rest.Rest.{Rest}
 use Rattle.bitvec_places.specs.Places.{IsRestOf, places_in}
-use Rattle.bitvec_places.proofs.PlacesLaws.{places-empty, places-absent, places-absent_back, places-count, places-first, places-last}
+use Rattle.bitvec_places.proofs.PlacesLaws.{places-absent, places-absent_back, places-count, places-first, places-last}
 
 module _ (b : ℕ) (at : ℕ → ℕ → ℕ) (xs : List ℕ) (window : Window) (rest : Rest) (wanted : Bool) (has : HasWindow b xs window) (inside : IsRestOf rest window.len) where
   bound : rest.back ≤ length (list_in b at xs window)
@@ -57,5 +57,3 @@ is_one false = refl
 pub is_zero : (bit : Bool) → beq bit false ≡ not bit
 is_zero true = refl
 is_zero false = refl
-
-pub ruleset taking = (first-below, first-taken, last-below, last-taken, none-left, none-left_back, places-empty)

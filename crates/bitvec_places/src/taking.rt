@@ -1,6 +1,4 @@
 //! The first and the last place of a bit that a walk has yet to reach.
-#![tactic(auto, using(crate::proofs::TakingLemmas::taking))]
-
 ghost use Rattle.std.specs.Prelude.{◌≡◌, ◌+◌, ◌-◌, length};
 ghost use Rattle.std.specs.Iterator.{YieldsFirst, YieldsLast};
 ghost use Rattle.bitvec_base.specs.Memory.{HasWindow, list_in};

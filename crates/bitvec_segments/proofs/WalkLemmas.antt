@@ -188,13 +188,6 @@ Left-next big high {b} {at} old {now} {mid} window {rest} {t} v turn has fits le
 pub whole-none : (b : ℕ) (part : Part) → part.to - part.from ≡ b → part_loads b part ≡ 0
 whole-none b part all = cond-true (eqb (part.to - part.from) b) 0 1 (eq-eqb (part.to - part.from) b all)
 
--- ---- the first part of a window that begins where an element does
-
-pub edge-place : {b e : ℕ} (window : Window) → 0 < b → window.start ≡ e * b → (e ≡ window.start / b) × (0 ≡ window.start % b)
-edge-place {b} {e} window some edge =
-    let start : window.start ≡ e * b + 0 = omega arith in
-    (sym (ap (λ (n : ℕ). n / b) start ∙ div-mul-add e b 0 some), sym (ap (λ (n : ℕ). n % b) start ∙ mod-mul-add e b 0 some))
-
 -- ---- the first part of a window from a place on
 
 -- bits are left as long as elements are
@@ -205,13 +198,18 @@ bits-left b s n is more =
 pub some-left : {b : ℕ} {xs : List ℕ} {rest : Window} {left : ℕ} → HasWindow b xs rest → left ≡ touched_count b rest.start rest.len → 0 < left → 0 < rest.len
 some-left {b} {xs} {rest} has is more = bits-left b rest.start rest.len is more
 
+-- behind the first part
+pub passed : {b : ℕ} {rest : Window} {t : ℕ} → Turn b rest t → 1 < touched_count b rest.start rest.len → t < rest.len
+passed {b} {rest} {t} turn over = let more = bits-left b (rest.start + t) (rest.len - t) refl (omega arith) in omega arith
+
 -- and they begin at the next element
-pub passed : {b : ℕ} {rest : Window} {t : ℕ} → Turn b rest t → 1 < touched_count b rest.start rest.len → (0 < rest.len - t) × (rest.start + t ≡ (rest.start / b + 1) * b)
-passed {b} {rest} {t} turn over =
-    let more = bits-left b (rest.start + t) (rest.len - t) refl (omega arith) in
+pub next-place : {b : ℕ} {rest : Window} {t : ℕ} → Turn b rest t → t < rest.len → (rest.start / b + 1 ≡ (rest.start + t) / b) × (0 ≡ (rest.start + t) % b)
+next-place {b} {rest} {t} turn less =
     let place = div-add-mod' rest.start b in
+    let head = mod_below rest.start b turn.some in
     let step = turn.step in
-    (more, omega arith)
+    let start : rest.start + t ≡ (rest.start / b + 1) * b + 0 = omega arith in
+    (sym (ap (λ (n : ℕ). n / b) start ∙ div-mul-add (rest.start / b + 1) b 0 turn.some), sym (ap (λ (n : ℕ). n % b) start ∙ mod-mul-add (rest.start / b + 1) b 0 turn.some))
 
 -- where the first bit of a window stands, if there is one
 abbrev pub Begins : ℕ → Window → ℕ → ℕ → ℕ → Type 0
@@ -221,10 +219,7 @@ pub Begins-next : {b : ℕ} {rest : Window} {t element left : ℕ} → Turn b re
     → Begins b (window_after t rest) (element + 1) 0 left
 Begins-next {b} {rest} {t} {element} {left} turn is count = λ more.
     let later = bits-left b (rest.start + t) (rest.len - t) count more in
-    let place = div-add-mod' rest.start b in
-    let head = mod_below rest.start b turn.some in
-    let step = turn.step in
-    rw is (edge-place (window_after t rest) turn.some (omega arith))
+    rw is (next-place turn (omega arith))
 
 pub none-left : {b : ℕ} {xs : List ℕ} {rest : Window} {left : ℕ} → HasWindow b xs rest → left ≡ touched_count b rest.start rest.len → left ≤ 0 → rest.len ≡ 0
 none-left {b} {xs} {rest} has is none =

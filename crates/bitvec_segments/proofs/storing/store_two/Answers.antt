@@ -1,44 +1,22 @@
-use Rattle.std.proofs.Common.{◌≡◌, ◌+◌, arith, refl, ◌∙◌}
-use Rattle.bitvec_words.specs.TouchedLaws.{part_loads-most}
-use Rattle.bitvec_words.specs.WholeLaws.{HasWindow-part}
+use Rattle.std.proofs.Common.{arith, ◌∙◌}
+use Rattle.bitvec_words.specs.TouchedLaws.{touched-first}
 use Rattle.bitvec_base.specs.Parts.{first_part_of}
-use Rattle.bitvec_base.specs.Window.{window_after}
-use Rattle.bitvec_base.specs.WritesLaws.{HasWindow-kept}
-use Rattle.bitvec_segments.proofs.WalkLemmas.{edge-place, stored-joined, stored-one, turn, whole-none}
+use Rattle.bitvec_segments.proofs.WalkLemmas.{whole-none}
 use Rattle.bitvec_segments.proofs.storing.store_two.Goals as goal
 
 pub returns-then-window-BITS : goal.returns-then-window-BITS
 returns-then-window-BITS g c =
-    let part = c.only_part_at-part.ensures in
-    let whole = turn c.args.window g.met.C.Elem.BitStore.width_law c.requires.some part refl in
-    let place = edge-place c.args.window whole.some c.requires.edge in
-    let edge = part_loads-most g.C.Elem.BitStore.BITS c.only_part_at-part.result in
-    let cost = c.store_part_number.ensures.cost in
-    record {
-      writes = stored-one _ _ _ whole c.requires.number.window _ (omega arith) (rw part at c.store_part_number.ensures.writes);
-      cost = record { borrow = cost.borrow; loads = omega arith; stores = omega arith };
-    }
+    let some = touched-first g.C.Elem.BitStore.BITS c.args.window.start c.args.window.len c.requires.some in
+    let cost = c.store_one.ensures.cost in
+    record { writes = c.store_one.ensures.writes; cost = record { borrow = cost.borrow; loads = cost.loads; stores = omega arith } }
 
 pub returns : goal.returns
 returns g c =
-    let window = c.args.window in
-    let b = g.C.Elem.BitStore.BITS in
-    let part = c.full_part_at-part.ensures in
-    let first = turn window g.met.C.Elem.BitStore.width_law c.requires.some part c.len-len.ensures in
-    let place = edge-place window first.some c.requires.edge in
-    let rest = window_after c.len-len.result window in
-    let last : c.only_part_at-last.result ≡ first_part_of b rest = rw c.after-rest.ensures at c.only_part_at-last.ensures in
-    let second = turn rest g.met.C.Elem.BitStore.width_law (omega arith) last refl in
-    let next = edge-place {e = c.args.element + 1} rest first.some (omega arith) in
-    let has = HasWindow-part rest c.requires.number.window (omega arith) (omega arith) in
-    let begun = rw (part, c.lower_bits.ensures.bits, c.after-rest.ensures) at c.store_part_number-2.ensures in
-    let ended = rw (last, c.lower_bits-2.ensures.bits) at c.store_part_number-3.ensures in
-    let none = whole-none b (first_part_of b window) (omega arith) in
-    let most = part_loads-most b (first_part_of b rest) in
-    let begun_cost = begun.cost in
-    let ended_cost = ended.cost in
+    let first = c.store_first-left.ensures in
+    let last = c.store_one-2.ensures in
+    let some = touched-first g.C.Elem.BitStore.BITS c.store_first-left.result.0.start c.store_first-left.result.0.len first.some in
+    let none = whole-none g.C.Elem.BitStore.BITS (first_part_of g.C.Elem.BitStore.BITS c.args.window) (omega arith) in
     record {
-      writes = stored-joined _ _ _ first c.requires.number.window c.args.number begun.writes
-          (stored-one _ _ _ second (HasWindow-kept _ has begun.writes.elements) _ (omega arith) ended.writes);
-      cost = record { borrow = ended_cost.borrow ∙ begun_cost.borrow; loads = omega arith; stores = omega arith };
+      writes = first.left _ last.writes;
+      cost = record { borrow = last.cost.borrow ∙ first.cost.borrow; loads = omega arith; stores = omega arith };
     }
