@@ -8,6 +8,7 @@
 #include "timing.hpp"
 #include <cstdio>
 #include <cstring>
+#include <numeric>
 #include <string>
 #include <vector>
 
@@ -116,10 +117,11 @@ class Timed {
     Times copy() {
         Times t;
         auto loop = inner ? Loop::inner_copy : Loop::copy;
-        t.library = time_call([&] { Call::copy(l(), size, first, r(), size, start, len); });
-        t.loop = time_call([&] { loop(l(), r(), unsigned(start), count); });
+        auto read = [&] { read_all(); };
+        t.library = time_call([&] { Call::copy(l(), size, first, r(), size, start, len); }, read);
+        t.loop = time_call([&] { loop(l(), r(), unsigned(start), count); }, read);
         if (start == 0)
-            t.libc = time_call([&] { std::memmove(l(), r(), len / 8); });
+            t.libc = time_call([&] { std::memmove(l(), r(), len / 8); }, read);
         return t;
     }
 
@@ -216,10 +218,11 @@ class Timed {
 
     Times fill() {
         Times t;
-        t.library = time_call([&] { Call::fill(r(), size, start, len, true); });
-        t.loop = time_call([&] { Loop::fill(r(), unsigned(start), count, true); });
+        auto read = [&] { read_all(); };
+        t.library = time_call([&] { Call::fill(r(), size, start, len, true); }, read);
+        t.loop = time_call([&] { Loop::fill(r(), unsigned(start), count, true); }, read);
         if (start == 0)
-            t.libc = time_call([&] { std::memset(r(), 0xFF, len / 8); });
+            t.libc = time_call([&] { std::memset(r(), 0xFF, len / 8); }, read);
         return t;
     }
 
@@ -268,6 +271,11 @@ class Timed {
 
     Element *l() { return left.data(); }
     Element *r() { return right.data(); }
+
+    void read_all() {
+        keep(std::accumulate(left.begin(), left.end(), Element(0)));
+        keep(std::accumulate(right.begin(), right.end(), Element(0)));
+    }
 };
 
 // Where the sides of an operation begin: at the edge of an element, one at an edge and one inside, or

@@ -9,6 +9,7 @@
 #include <boost/dynamic_bitset.hpp>
 #include <cstddef>
 #include <cstdint>
+#include <functional>
 #include <map>
 #include <random>
 #include <string>
@@ -49,7 +50,11 @@ struct Best {
 
     template <class Call>
     void try_peer(const char *peer, Call call) {
-        double taken = time_call(call);
+        try_peer(peer, call, [] {});
+    }
+    template <class Call, class Read>
+    void try_peer(const char *peer, Call call, Read read) {
+        double taken = time_call(call, read);
         all[peer] = taken;
         if (nanoseconds == 0 || taken < nanoseconds) {
             name = peer;
@@ -79,6 +84,12 @@ struct Sets {
         fixedbitset_free(fixed);
         bit_vec_free(bit_vec);
     }
+
+    // Each reads all of one set.
+    void read_vector() const { keep(std::count(vector.begin(), vector.end(), true)); }
+    void read_bitset() const { keep(bitset.count()); }
+    void read_fixed() const { keep(fixedbitset_count_ones(fixed, 0, vector.size())); }
+    void read_bit_vec() const { keep(bit_vec_count_ones(bit_vec)); }
 };
 
 // The best peer at each operation on `len` bits, from bit `start` of the second set, or of the only one.
@@ -92,15 +103,15 @@ class Peers {
 
     Best copy() {
         Best best;
-        best.try_peer("vector<bool>", [&] { std::copy(second(), second() + len, first()); });
+        best.try_peer("vector<bool>", [&] { std::copy(second(), second() + len, first()); }, read(&Sets::read_vector));
         if (inner)
             return best;
         if (start == 0) {
-            best.try_peer("dynamic_bitset", [&] { left.bitset = right.bitset; });
-            best.try_peer("fixedbitset", [&] { fixedbitset_copy(left.fixed, right.fixed); });
-            best.try_peer("bit-vec", [&] { bit_vec_copy(left.bit_vec, right.bit_vec); });
+            best.try_peer("dynamic_bitset", [&] { left.bitset = right.bitset; }, read(&Sets::read_bitset));
+            best.try_peer("fixedbitset", [&] { fixedbitset_copy(left.fixed, right.fixed); }, read(&Sets::read_fixed));
+            best.try_peer("bit-vec", [&] { bit_vec_copy(left.bit_vec, right.bit_vec); }, read(&Sets::read_bit_vec));
         } else {
-            best.try_peer("dynamic_bitset", [&] { left.bitset = shifted(); });
+            best.try_peer("dynamic_bitset", [&] { left.bitset = shifted(); }, read(&Sets::read_bitset));
         }
         return best;
     }
@@ -225,11 +236,11 @@ class Peers {
 
     Best fill() {
         Best best;
-        best.try_peer("vector<bool>", [&] { std::fill(second(), second() + len, true); });
-        best.try_peer("dynamic_bitset", [&] { right.bitset.set(start, len, true); });
-        best.try_peer("fixedbitset", [&] { fixedbitset_fill(right.fixed, start, len, true); });
+        best.try_peer("vector<bool>", [&] { std::fill(second(), second() + len, true); }, read(&Sets::read_vector));
+        best.try_peer("dynamic_bitset", [&] { right.bitset.set(start, len, true); }, read(&Sets::read_bitset));
+        best.try_peer("fixedbitset", [&] { fixedbitset_fill(right.fixed, start, len, true); }, read(&Sets::read_fixed));
         if (start == 0)
-            best.try_peer("bit-vec", [&] { bit_vec_fill(right.bit_vec, true); });
+            best.try_peer("bit-vec", [&] { bit_vec_fill(right.bit_vec, true); }, read(&Sets::read_bit_vec));
         return best;
     }
 
@@ -318,6 +329,14 @@ class Peers {
                 word |= uint32_t(random() % every == 0) << i;
         }
         return result;
+    }
+
+    // Reads both sets of a kind before a round.
+    std::function<void()> read(void (Sets::*read_one)() const) const {
+        return [this, read_one] {
+            (left.*read_one)();
+            (right.*read_one)();
+        };
     }
 
     std::vector<bool>::iterator first() { return left.vector.begin() + ptrdiff_t(inner ? start : 0); }

@@ -71,16 +71,23 @@ size_t calls_of_a_round(Call &call) {
 }
 
 // The time of one call, in nanoseconds: the best of so many rounds, each of as many calls as take so long. A call before a round
-// brings the memory back that other layouts have driven out.
-template <class Call>
-double time_call(Call call) {
+// brings the memory back that other layouts have driven out, and `read` then reads it. For what libc copies and fills by a `rep`
+// instruction doesn't come into the cache by that, and takes twice as long as long as it isn't there.
+template <class Call, class Read>
+double time_call(Call call, Read read) {
     const size_t calls = calls_of_a_round(call);
     double best = std::numeric_limits<double>::infinity();
     for (int round = 0; round < rounds.count; ++round) {
         turns.next();
         if (calls > 1)
             call();
+        read();
         best = std::min(best, time_calls(call, calls) / double(calls));
     }
     return best;
+}
+
+template <class Call>
+double time_call(Call call) {
+    return time_call(call, [] {});
 }

@@ -82,10 +82,11 @@ fn swap_whole<O: BitOrder, C: Cells, D: Cells + CellsRead<Elem = C::Elem>>(
     ensures right_cost { Costs D.CellsRead right.old right.new count count }
 {
     for step in 0..count {
-        let element = left.load(first + step);
-        let other = right.load(source + step);
-        left.store(first + step, other);
-        right.store(source + step, element);
+        let (here, there) = (first + step, source + step);
+        let element = left.load(here);
+        let other = right.load(there);
+        left.store(here, other);
+        right.store(there, element);
     }
 }
 

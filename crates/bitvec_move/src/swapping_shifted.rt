@@ -123,10 +123,11 @@ fn swap_each<O: WordOrder, C: Cells, D: Cells + CellsRead<Elem = C::Elem>>(
     let mut before = toward_end::<O, C::Elem>(waiting, rest);
     let mut latest = waiting;
     for step in 0..count {
-        let element = left.load(first + step);
-        let next = right.load(source + step + 1);
-        left.store(first + step, joined::<O, C::Elem>(latest, next, skip));
-        right.store(source + step, joined::<O, C::Elem>(before, element, rest));
+        let (here, there) = (first + step, source + step);
+        let element = left.load(here);
+        let next = right.load(there + 1);
+        left.store(here, joined::<O, C::Elem>(latest, next, skip));
+        right.store(there, joined::<O, C::Elem>(before, element, rest));
         let carried = toward_start::<O, C::Elem>(element, rest);
         last = merged::<O, C::Elem>(next, carried, 0, skip);
         before = element;

@@ -1,5 +1,4 @@
 //! The bits of a window of a slice of elements copied to another place of it.
-#![tactic(auto, using(bitvec_elements::proofs::Directions::by_direction))]
 
 ghost use Rattle.std.specs.Prelude.{◌-◌, ◌≤◌, map};
 ghost use Rattle.bitvec_base.specs.Lists.{FitsWithin, copied_within};
@@ -18,6 +17,7 @@ use std::ops::Range;
 /// Condition: the memory has at most `MAX_BITS` bits, the window lies in it, and both the bits read
 /// and those written lie in the window. At most 64 bits are copied as a word under an order that runs from
 /// one end of an element to the other.
+#[tactic(auto, using(bitvec_elements::proofs::Directions::by_direction))]
 pub fn copy_within_in<T: BitStore, O: SliceOrder>(
     elements: &mut [T],
     window: Window,

@@ -1,5 +1,4 @@
 //! The bits of a window of a slice of elements in the opposite order.
-#![tactic(auto, using(bitvec_elements::proofs::Directions::by_direction))]
 
 ghost use Rattle.std.specs.Prelude.{◌≤◌, map, reverse as reversal};
 ghost use Rattle.bitvec_base.specs.Memory.{Edits, HasWindow};
@@ -15,6 +14,7 @@ use bitvec_words::{WORD_BITS, WordOrder, moved, reversed};
 /// Reverses the bits of a window, as the order does it. Condition: the memory has at most `MAX_BITS`
 /// bits, and the window lies in it. At most 64 bits are reversed as a word under an order that runs from
 /// one end of an element to the other.
+#[tactic(auto, using(bitvec_elements::proofs::Directions::by_direction))]
 pub fn reverse_in<T: BitStore, O: SliceOrder>(elements: &mut [T], window: Window)
     requires window { HasWindow T.BITS (map T.value elements.old) window }
     ensures writes { Edits T.BITS O.at (map T.value elements.old) (map T.value elements.new) window reversal }

@@ -1,5 +1,4 @@
 //! The bits of a window of a slice of elements rotated: by exchanges of blocks, down to few bits that are held aside.
-#![tactic(auto, using(bitvec_elements::proofs::Directions::by_direction, bitvec_elements::proofs::StoreLemmas::ranged))]
 
 ghost use Rattle.std.specs.Prelude.{◌≡◌, ◌*◌, ◌-◌, ◌≤◌, length, map, take};
 ghost use Rattle.bitvec_base.specs.Lists.{rotated_left, rotated_right};
@@ -19,6 +18,7 @@ use bitvec_words::{WordOrder, moved};
 /// Rotates the bits of a window so that the bit at `by` comes first. Condition: the memory has at
 /// most `MAX_BITS` bits, the window lies in it, and `by` is at most the window's length. At most 64 bits
 /// are rotated as a word, under an order that runs from one end of an element to the other.
+#[tactic(auto, using(bitvec_elements::proofs::Directions::by_direction))]
 pub fn rotate_left_in<T: BitStore, O: SliceOrder>(elements: &mut [T], window: Window, by: usize)
     requires window { HasWindow T.BITS (map T.value elements.old) window }
     requires bound { by ≤ window.len }
@@ -81,7 +81,6 @@ fn rotate_many<T: BitStore, O: SliceOrder>(elements: &mut [T], window: Window, b
 
 /// Rotates the bits of a window so that the bit at `by` comes first, with up to `HELD` elements held
 /// aside. Conditions: as for [`rotate_left_in`], and `HELD` is at most 128.
-#[tactic(auto)]
 fn rotate_aside<T: BitStore, O: SliceOrder, const HELD: usize>(
     elements: &mut [T],
     window: Window,
@@ -103,7 +102,6 @@ fn rotate_aside<T: BitStore, O: SliceOrder, const HELD: usize>(
 /// The shorter of the two sides is exchanged with as many bits of the other, which are then in
 /// their place, until the shorter one can be held aside. It is not inlined: its loops
 /// are slower among those of a caller.
-#[tactic(auto)]
 #[inline(never)]
 fn rotate_blocks<T: BitStore, O: SliceOrder>(
     elements: &mut [T],
@@ -138,7 +136,6 @@ fn rotate_blocks<T: BitStore, O: SliceOrder>(
 
 /// Rotates the bits of a window so that the bit at `by` comes first, with those before it held
 /// aside. Conditions: as for [`rotate_blocks`], and the memory beside holds these bits.
-#[tactic(auto)]
 fn rotate_front<T: BitStore, O: SliceOrder>(
     elements: &mut [T],
     window: Window,
@@ -163,7 +160,6 @@ fn rotate_front<T: BitStore, O: SliceOrder>(
 
 /// Rotates the bits of a window so that the bit at `by` comes first, with those from it on held
 /// aside. Conditions: as for [`rotate_front`], of these bits.
-#[tactic(auto)]
 fn rotate_back<T: BitStore, O: SliceOrder>(
     elements: &mut [T],
     window: Window,

@@ -1,5 +1,4 @@
 //! The bits of a window of a slice of elements shifted towards one of its ends.
-#![tactic(auto, using(bitvec_elements::proofs::Directions::by_direction))]
 
 ghost use Rattle.std.specs.Prelude.{◌≡◌, ◌%◌, ◌≤◌, ◌==◌, map};
 ghost use Rattle.bitvec_base.specs.Lists.{shifted_end, shifted_start};
@@ -17,6 +16,7 @@ use bitvec_words::{WORD_BITS, WordOrder, moved};
 /// most `MAX_BITS` bits, the window lies in it, and `by` is at most the window's length. Under an order that
 /// runs from one end of an element to the other, at most 64 bits are shifted as a word. So are the last 64 of more
 /// where `by` is below 64 and the window ends with an element.
+#[tactic(auto, using(bitvec_elements::proofs::Directions::by_direction))]
 pub fn shift_start_in<T: BitStore, O: SliceOrder>(elements: &mut [T], window: Window, by: usize)
     requires window { HasWindow T.BITS (map T.value elements.old) window }
     requires bound { by ≤ window.len }
@@ -30,6 +30,7 @@ pub fn shift_start_in<T: BitStore, O: SliceOrder>(elements: &mut [T], window: Wi
 /// Shifts the bits of a window towards its end, and zeros in at its start. Condition: as for
 /// [`shift_start_in`], as are the bits that are shifted as a word, but for the first 64 where the window begins
 /// with an element.
+#[tactic(auto, using(bitvec_elements::proofs::Directions::by_direction))]
 pub fn shift_end_in<T: BitStore, O: SliceOrder>(elements: &mut [T], window: Window, by: usize)
     requires window { HasWindow T.BITS (map T.value elements.old) window }
     requires bound { by ≤ window.len }

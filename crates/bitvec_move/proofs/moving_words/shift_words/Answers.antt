@@ -1,5 +1,6 @@
 use Rattle.std.proofs.Common.{ℕ, Bool, ◌≡◌, ◌≤◌, ◌+◌, ◌*◌, ◌/◌, ◌∙◌, arith, nat_eq, not}
 use Rattle.std.proofs.Math.Nat.{le_refl}
+use Rattle.bitvec_words.specs.MovedPlaceLaws.{from-word}
 use Rattle.bitvec_move.proofs.CostSums.{Costs-held, Costs-word}
 use Rattle.bitvec_move.proofs.WithinLaws.{CopiesSome-none, CopiesSome-part}
 use Rattle.bitvec_move.proofs.WordMoveLemmas.{CopiesSome-all, word-carried, word-joined, word-left}
@@ -9,6 +10,15 @@ use Rattle.bitvec_move.proofs.moving_words.shift_words.Goals as goal
 
 next-sum : (s p a : ℕ) → s + p + a ≡ s + (p + a)
 next-sum s p a = omega arith
+
+pub overflow_add-moved : goal.overflow_add-moved
+overflow_add-moved g c = record { fits = from-word _ _ _ _ g.met.C.Elem.BitStore.width_law c.requires.skipped.span.beside c.requires.skipped.inside (omega arith) }
+
+pub overflow_add-moved-2 : goal.overflow_add-moved-2
+overflow_add-moved-2 g c = record { fits = from-word _ _ _ _ g.met.C.Elem.BitStore.width_law c.requires.skipped.span.beside c.requires.skipped.inside c.read_place-from.ensures.fits }
+
+pub overflow_add-moved-in-loop-step : goal.overflow_add-moved-in-loop-step
+overflow_add-moved-in-loop-step g c = record { fits = from-word _ _ _ _ g.met.C.Elem.BitStore.width_law c.requires.skipped.span.beside c.requires.skipped.inside (omega arith) }
 
 -- ---- each word
 

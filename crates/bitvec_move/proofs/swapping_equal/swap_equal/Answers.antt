@@ -1,6 +1,7 @@
-use Rattle.std.proofs.Common.{◌≡◌, ◌≢◌, ◌-◌, ◌%◌, min, arith, rules, ◌∙◌, ap, refl}
+use Rattle.std.proofs.Common.{◌≡◌, ◌≢◌, ◌-◌, ◌%◌, min, arith, ◌∙◌, ap, refl}
 use Rattle.bitvec_store.specs.WidthLaws.{width_some}
 use Rattle.bitvec_cells.specs.Cost.{touched_count}
+use Rattle.bitvec_move.proofs.CostSums.{Costs-sum}
 use Rattle.bitvec_move.proofs.SwapLaws.{SwapsWindows-joined, beside-head}
 use Rattle.bitvec_words.specs.TouchedLaws.{touched-head, touched-rest}
 use Rattle.bitvec_words.specs.MovedPlaceLaws.{behind-edge, head-element, head-part}
@@ -11,12 +12,10 @@ pub swap_part-requires-clause-part : goal.swap_part-requires-clause-part
 swap_part-requires-clause-part g c = head-part _ _ _ c.args.left_window _ g.met.C.Elem.BitStore.width_law refl c.head_of-passed.ensures.part c.requires.some c.requires.span.window
 
 pub swap_part-requires-clause-source : goal.swap_part-requires-clause-source
-swap_part-requires-clause-source g c =
-    rw c.element.ensures (head-element g.met.C.Elem.BitStore.width_law refl (omega arith) c.requires.span.beside)
+swap_part-requires-clause-source g c = rw c.element.ensures (head-element g.met.C.Elem.BitStore.width_law refl (omega arith) c.requires.span.beside)
 
 pub swap_aligned-requires-2-clause-edge : goal.swap_aligned-requires-2-clause-edge
-swap_aligned-requires-2-clause-edge g c =
-    behind-edge _ c.args.left_window g.met.C.Elem.BitStore.width_law c.after-rest.ensures c.head_of-passed.ensures.long c.if-passed-left_window.false
+swap_aligned-requires-2-clause-edge g c = behind-edge _ c.args.left_window g.met.C.Elem.BitStore.width_law c.after-rest.ensures c.head_of-passed.ensures.long c.if-passed-left_window.false
 
 pub swap_aligned-requires-2-clause-right_edge : goal.swap_aligned-requires-2-clause-right_edge
 swap_aligned-requires-2-clause-right_edge g c =
@@ -28,19 +27,17 @@ swap_aligned-requires-2-clause-right_edge g c =
 pub returns-then-passed-left_window-clause-cost : goal.returns-then-passed-left_window-clause-cost
 returns-then-passed-left_window-clause-cost g c =
     let b = g.C.Elem.BitStore.BITS in
-    let some = width_some _ g.met.C.Elem.BitStore.width_law in
-    let one = touched-head b c.args.left_window.start c.head_of-passed.result.1 c.args.left_window.len some c.requires.some c.head_of-passed.ensures.long in
+    let one = touched-head b c.args.left_window.start c.head_of-passed.result.1 c.args.left_window.len (width_some _ g.met.C.Elem.BitStore.width_law) c.requires.some c.head_of-passed.ensures.long in
     let all = ap (touched_count b c.args.left_window.start) c.if-passed-left_window.true in
-    record { borrow = search rules; loads = omega arith; stores = omega arith }
+    rw (← all, one) c.swap_part.ensures.cost
 
 pub returns-then-passed-left_window-clause-right_cost : goal.returns-then-passed-left_window-clause-right_cost
 returns-then-passed-left_window-clause-right_cost g c =
     let b = g.C.Elem.BitStore.BITS in
-    let some = width_some _ g.met.C.Elem.BitStore.width_law in
     let same : c.head_of-passed.result.1 ≡ min c.args.right_window.len (b - c.args.right_window.start % b) = rw (c.requires.span.lengths, c.requires.phases) at c.head_of-passed.ensures.long in
-    let one = touched-head b c.args.right_window.start c.head_of-passed.result.1 c.args.right_window.len some (omega arith) same in
+    let one = touched-head b c.args.right_window.start c.head_of-passed.result.1 c.args.right_window.len (width_some _ g.met.C.Elem.BitStore.width_law) (omega arith) same in
     let all = ap (touched_count b c.args.right_window.start) (c.if-passed-left_window.true ∙ c.requires.span.lengths) in
-    record { borrow = search rules; loads = omega arith; stores = omega arith }
+    rw (← all, one) c.swap_part.ensures.right_cost
 
 pub returns-clause-swaps : goal.returns-clause-swaps
 returns-clause-swaps g c =
@@ -55,21 +52,18 @@ returns-clause-swaps g c =
 
 pub returns-clause-cost : goal.returns-clause-cost
 returns-clause-cost g c =
-    let b = g.C.Elem.BitStore.BITS in
-    let some = width_some _ g.met.C.Elem.BitStore.width_law in
-    let all = touched-rest b c.args.left_window.start c.head_of-passed.result.1 c.args.left_window.len some c.requires.some c.head_of-passed.ensures.long c.if-passed-left_window.false in
+    let all = touched-rest g.C.Elem.BitStore.BITS c.args.left_window.start c.head_of-passed.result.1 c.args.left_window.len (width_some _ g.met.C.Elem.BitStore.width_law) c.requires.some c.head_of-passed.ensures.long c.if-passed-left_window.false in
     let rest = rw c.after-rest.ensures at c.swap_aligned-2.ensures.cost in
-    record { borrow = search rules; loads = omega arith; stores = omega arith }
+    Costs-sum g.C.CellsRead c.swap_part.ensures.cost rest all all
 
 pub returns-clause-right_cost : goal.returns-clause-right_cost
 returns-clause-right_cost g c =
     let b = g.C.Elem.BitStore.BITS in
-    let some = width_some _ g.met.C.Elem.BitStore.width_law in
     let same : c.head_of-passed.result.1 ≡ min c.args.right_window.len (b - c.args.right_window.start % b) = rw (c.requires.span.lengths, c.requires.phases) at c.head_of-passed.ensures.long in
     let left : c.head_of-passed.result.1 ≢ c.args.right_window.len = λ e. c.if-passed-left_window.false (omega arith) in
-    let all = touched-rest b c.args.right_window.start c.head_of-passed.result.1 c.args.right_window.len some (omega arith) same left in
+    let all = touched-rest b c.args.right_window.start c.head_of-passed.result.1 c.args.right_window.len (width_some _ g.met.C.Elem.BitStore.width_law) (omega arith) same left in
     let rest = rw c.after-behind.ensures at c.swap_aligned-2.ensures.right_cost in
-    record { borrow = search rules; loads = omega arith; stores = omega arith }
+    Costs-sum g.D.CellsRead c.swap_part.ensures.right_cost rest all all
 
 pub swap_aligned-requires-2-clause-span : goal.swap_aligned-requires-2-clause-span
 swap_aligned-requires-2-clause-span g c =

@@ -11,25 +11,14 @@ use Rattle.bitvec_words.specs.MovedPlaceLaws.{from-word, next-word}
 use Rattle.bitvec_move.proofs.CostSums.{Costs-next, Costs-none}
 use Rattle.bitvec_move.proofs.swapping_shifted.swap_each.Goals as goal
 
-pub overflow_add-first : goal.overflow_add-first
-overflow_add-first g c =
-    record { fits = inside-word _ _ _ g.met.C.Elem.BitStore.width_law c.requires.span.window c.loop-step-test.true }
+pub overflow_add-here : goal.overflow_add-here
+overflow_add-here g c = record { fits = inside-word _ _ _ g.met.C.Elem.BitStore.width_law c.requires.span.window c.loop-step-test.true }
 
-pub overflow_add-first-in-loop-step : goal.overflow_add-first-in-loop-step
-overflow_add-first-in-loop-step g c =
-    record { fits = inside-word _ _ _ g.met.C.Elem.BitStore.width_law c.requires.span.window c.loop-step-test.true }
+pub overflow_add-there : goal.overflow_add-there
+overflow_add-there g c = record { fits = from-word _ _ _ _ g.met.C.Elem.BitStore.width_law c.requires.span.beside c.requires.inside c.loop-step.auto.step-end }
 
-pub overflow_add-source : goal.overflow_add-source
-overflow_add-source g c =
-    record { fits = from-word _ _ _ _ g.met.C.Elem.BitStore.width_law c.requires.span.beside c.requires.inside c.loop-step.auto.step-end }
-
-pub overflow_add-source-in-loop-step : goal.overflow_add-source-in-loop-step
-overflow_add-source-in-loop-step g c =
-    record { fits = next-word _ _ _ _ g.met.C.Elem.BitStore.width_law c.requires.span.beside c.requires.inside c.loop-step-test.true }
-
-pub overflow_add-source-in-loop-step-2 : goal.overflow_add-source-in-loop-step-2
-overflow_add-source-in-loop-step-2 g c =
-    record { fits = from-word _ _ _ _ g.met.C.Elem.BitStore.width_law c.requires.span.beside c.requires.inside c.loop-step.auto.step-end }
+pub overflow_add-there-in-loop-step : goal.overflow_add-there-in-loop-step
+overflow_add-there-in-loop-step g c = record { fits = next-word _ _ _ _ g.met.C.Elem.BitStore.width_law c.requires.span.beside c.requires.inside c.loop-step-test.true }
 
 pub store-requires : goal.store-requires
 store-requires g c = rw c.load-element.ensures.numbers (next_element _ _ _ _ (width_some _ g.met.C.Elem.BitStore.width_law) c.requires.span.window c.loop-step-test.true c.loop-step.invariant.swaps.writes.elements)
@@ -57,12 +46,10 @@ loop-step-init g c = record {
 }
 
 pub load-element-requires : goal.load-element-requires
-load-element-requires g c =
-    next_element _ _ _ _ (width_some _ g.met.C.Elem.BitStore.width_law) c.requires.span.window c.loop-step-test.true c.loop-step.invariant.swaps.writes.elements
+load-element-requires g c = next_element _ _ _ _ (width_some _ g.met.C.Elem.BitStore.width_law) c.requires.span.window c.loop-step-test.true c.loop-step.invariant.swaps.writes.elements
 
 pub load-next-requires : goal.load-next-requires
-load-next-requires g c =
-    across-next _ _ _ _ c.requires c.loop-step-test.true c.loop-step.invariant.swaps.right_writes
+load-next-requires g c = across-next _ _ _ _ c.requires c.loop-step-test.true c.loop-step.invariant.swaps.right_writes
 
 pub loop-step-preserved : goal.loop-step-preserved
 loop-step-preserved g c =

@@ -14,13 +14,11 @@ use Rattle.bitvec_move.proofs.swapping_shifted.swap_rest.Goals as goal
 
 pub swap_across-last-requires : goal.swap_across-last-requires
 swap_across-last-requires g c =
-    let b = g.C.Elem.BitStore.BITS in
-    let some = width_some _ g.met.C.Elem.BitStore.width_law in
     let skipped = c.requires.skipped in
     record {
       span = rw c.of-stretch.ensures (whole-span_from g.met.C.Elem.BitStore.width_law skipped.span skipped.edge);
       inside = rw c.of-stretch.ensures skipped.inside;
-      bound = rw c.of-stretch.ensures (mod_below c.args.right_window.start b some);
+      bound = rw c.of-stretch.ensures (mod_below c.args.right_window.start _ (width_some _ g.met.C.Elem.BitStore.width_law));
     }
 
 pub store-requires : goal.store-requires
@@ -43,9 +41,8 @@ swap_waiting-end-requires g c =
 
 pub returns-then-tail-eq0-clause-cost : goal.returns-then-tail-eq0-clause-cost
 returns-then-tail-eq0-clause-cost g c =
-    let b = g.C.Elem.BitStore.BITS in
     let full = rw c.tail_part-tail.ensures at c.if-tail-eq0.true in
-    let all = touched-full b c.args.left_window.start c.args.left_window.len (width_some _ g.met.C.Elem.BitStore.width_law) c.requires.skipped.edge full in
+    let all = touched-full g.C.Elem.BitStore.BITS c.args.left_window.start c.args.left_window.len (width_some _ g.met.C.Elem.BitStore.width_law) c.requires.skipped.edge full in
     rw all (rw c.of-stretch.ensures at c.swap_across-last.ensures.cost)
 
 pub returns-then-tail-eq0-clause-right_cost : goal.returns-then-tail-eq0-clause-right_cost
@@ -60,11 +57,10 @@ returns-then-tail-eq0-clause-right_cost g c =
 pub returns-clause-swaps : goal.returns-clause-swaps
 returns-clause-swaps g c =
     let b = g.C.Elem.BitStore.BITS in
-    let some = width_some _ g.met.C.Elem.BitStore.width_law in
     let span = c.requires.skipped.span in
     let all = div-add-mod' c.args.left_window.len b in
     let fits : c.args.left_window.len / b * b ≤ c.args.right_window.len = omega arith in
-    let place = behind-element b c.args.right_window.start (c.args.left_window.len / b) some in
+    let place = behind-element b c.args.right_window.start (c.args.left_window.len / b) (width_some _ g.met.C.Elem.BitStore.width_law) in
     let whole = rw c.of-stretch.ensures at c.swap_across-last.ensures.swaps in
     let part = rw (c.tail_part-tail.ensures, c.after-behind.ensures, c.whole_bits.ensures.value, place) at c.swap_waiting-end.ensures.swaps in
     rw (c.store-2.ensures.numbers, c.last_element.ensures, c.after-behind.ensures, c.whole_bits.ensures.value)

@@ -12,41 +12,34 @@ use Rattle.bitvec_move.proofs.MoveLemmas.{place-element}
 use Rattle.bitvec_move.proofs.swapping_shifted.swap_shifted.Goals as goal
 
 pub load-waiting-requires : goal.load-waiting-requires
-load-waiting-requires g c =
-    rw c.element.ensures (head-element g.met.C.Elem.BitStore.width_law refl (omega arith) c.requires.span.beside)
+load-waiting-requires g c = rw c.element.ensures (head-element g.met.C.Elem.BitStore.width_law refl (omega arith) c.requires.span.beside)
 
 pub swap_waiting-last-requires : goal.swap_waiting-last-requires
-swap_waiting-last-requires g c =
-    record {
-      element = head-part _ _ _ c.args.left_window _ g.met.C.Elem.BitStore.width_law refl c.head_of-passed.ensures.part c.requires.some c.requires.span.window;
-      beside = search rules;
-      lengths = search rules;
-      some = search rules;
-    }
+swap_waiting-last-requires g c = record {
+  element = head-part _ _ _ c.args.left_window _ g.met.C.Elem.BitStore.width_law refl c.head_of-passed.ensures.part c.requires.some c.requires.span.window;
+  beside = search rules;
+  lengths = search rules;
+  some = search rules;
+}
 
 pub swap_rest-requires-clause-skipped : goal.swap_rest-requires-clause-skipped
-swap_rest-requires-clause-skipped g c =
-    let b = g.C.Elem.BitStore.BITS in
-    let some = width_some _ g.met.C.Elem.BitStore.width_law in
-    record {
-      span = search rules;
-      edge = behind-edge _ c.args.left_window g.met.C.Elem.BitStore.width_law c.after-rest.ensures c.head_of-passed.ensures.long c.if-passed-left_window.false;
-      inside = rw c.after-behind.ensures (apart_edge b c.args.left_window.start c.args.right_window.start c.head_of-passed.result.1 c.args.left_window.len some c.head_of-passed.ensures.long c.if-passed-left_window.false c.requires.phases);
-    }
+swap_rest-requires-clause-skipped g c = record {
+  span = search rules;
+  edge = behind-edge _ c.args.left_window g.met.C.Elem.BitStore.width_law c.after-rest.ensures c.head_of-passed.ensures.long c.if-passed-left_window.false;
+  inside = rw c.after-behind.ensures (apart_edge g.C.Elem.BitStore.BITS c.args.left_window.start c.args.right_window.start c.head_of-passed.result.1 c.args.left_window.len (width_some _ g.met.C.Elem.BitStore.width_law) c.head_of-passed.ensures.long c.if-passed-left_window.false c.requires.phases);
+}
 
 pub returns-then-passed-left_window-clause-cost : goal.returns-then-passed-left_window-clause-cost
 returns-then-passed-left_window-clause-cost g c =
     let b = g.C.Elem.BitStore.BITS in
-    let some = width_some _ g.met.C.Elem.BitStore.width_law in
-    let one = touched-head b c.args.left_window.start c.head_of-passed.result.1 c.args.left_window.len some c.requires.some c.head_of-passed.ensures.long in
+    let one = touched-head b c.args.left_window.start c.head_of-passed.result.1 c.args.left_window.len (width_some _ g.met.C.Elem.BitStore.width_law) c.requires.some c.head_of-passed.ensures.long in
     let all = ap (touched_count b c.args.left_window.start) c.if-passed-left_window.true in
     rw (← all, one) c.swap_waiting-last.ensures.cost
 
 pub returns-then-passed-left_window-clause-right_cost : goal.returns-then-passed-left_window-clause-right_cost
 returns-then-passed-left_window-clause-right_cost g c =
-    let b = g.C.Elem.BitStore.BITS in
     let long : c.args.right_window.len - (c.args.right_window.len - c.head_of-passed.result.1) ≡ c.args.right_window.len = omega arith in
-    let more = touched-first b c.args.right_window.start c.args.right_window.len (omega arith) in
+    let more = touched-first g.C.Elem.BitStore.BITS c.args.right_window.start c.args.right_window.len (omega arith) in
     let head = rw (c.until-met.ensures, long) at c.swap_waiting-last.ensures.right_cost in
     Costs-around g.D.CellsRead c.load-waiting.ensures.borrow c.load-waiting.ensures.loads c.load-waiting.ensures.stores head c.store.ensures.borrow c.store.ensures.loads c.store.ensures.stores more
 
@@ -67,9 +60,7 @@ returns-clause-swaps g c =
 
 pub returns-clause-cost : goal.returns-clause-cost
 returns-clause-cost g c =
-    let b = g.C.Elem.BitStore.BITS in
-    let some = width_some _ g.met.C.Elem.BitStore.width_law in
-    let all = touched-rest b c.args.left_window.start c.head_of-passed.result.1 c.args.left_window.len some c.requires.some c.head_of-passed.ensures.long c.if-passed-left_window.false in
+    let all = touched-rest g.C.Elem.BitStore.BITS c.args.left_window.start c.head_of-passed.result.1 c.args.left_window.len (width_some _ g.met.C.Elem.BitStore.width_law) c.requires.some c.head_of-passed.ensures.long c.if-passed-left_window.false in
     let rest = rw c.after-rest.ensures at c.swap_rest.ensures.cost in
     Costs-sum g.C.CellsRead c.swap_waiting-last.ensures.cost rest all all
 

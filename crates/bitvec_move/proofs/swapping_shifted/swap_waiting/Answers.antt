@@ -1,13 +1,23 @@
 use Rattle.std.proofs.Common.{◌≡◌, ℕ, ◌+◌, ◌-◌, ◌%◌, ◌<◌, ◌≤◌, Bool, List, length, take, slice_index, slice_range, arith, rules, ap, sym, ◌∙◌, refl}
+use Rattle.std.proofs.Math.Nat.{le_of_lt}
 use Rattle.std.proofs.lemmas.Nat.{mod_below}
 use Rattle.bitvec_base.specs.Memory.{element_bits}
 use Rattle.bitvec_base.specs.MemoryLaws.{length-element_bits}
 use Rattle.bitvec_base.specs.WritesLaws.{Writes-is}
 use Rattle.bitvec_store.specs.WidthLaws.{width_some}
 use Rattle.bitvec_words.specs.FieldLaws.{list-part, part-stored, range-shifted}
-use Rattle.bitvec_words.specs.TouchedLaws.{touched-one, touched-two}
+use Rattle.bitvec_words.specs.TouchedLaws.{next-inside, touched-one, touched-two}
+use Rattle.bitvec_words.specs.WordLaws.{fits-word}
 use Rattle.bitvec_move.proofs.WaitingLaws.{range-moved, range-moved_across, waiting-across, waiting-beyond, waiting-front, waiting-inside}
 use Rattle.bitvec_move.proofs.swapping_shifted.swap_waiting.Goals as goal
+
+pub overflow_add-index : goal.overflow_add-index
+overflow_add-index g c =
+    let next = next-inside g.C.Elem.BitStore.BITS _ _ c.requires.beside (omega arith) in
+    record { fits = rw c.element-index.ensures (fits-word _ _ _ _ g.met.C.Elem.BitStore.width_law c.requires.beside (le_of_lt next)) }
+
+pub load-next-requires : goal.load-next-requires
+load-next-requires g c = rw c.element-index.ensures (next-inside g.C.Elem.BitStore.BITS _ _ c.requires.beside (omega arith))
 
 pub returns-then-from-room-clause-swaps : goal.returns-then-from-room-clause-swaps
 returns-then-from-room-clause-swaps g c =
