@@ -198,10 +198,6 @@ bits-left b s n is more =
 pub some-left : {b : ℕ} {xs : List ℕ} {rest : Window} {left : ℕ} → HasWindow b xs rest → left ≡ touched_count b rest.start rest.len → 0 < left → 0 < rest.len
 some-left {b} {xs} {rest} has is more = bits-left b rest.start rest.len is more
 
--- behind the first part
-pub passed : {b : ℕ} {rest : Window} {t : ℕ} → Turn b rest t → 1 < touched_count b rest.start rest.len → t < rest.len
-passed {b} {rest} {t} turn over = let more = bits-left b (rest.start + t) (rest.len - t) refl (omega arith) in omega arith
-
 -- and they begin at the next element
 pub next-place : {b : ℕ} {rest : Window} {t : ℕ} → Turn b rest t → t < rest.len → (rest.start / b + 1 ≡ (rest.start + t) / b) × (0 ≡ (rest.start + t) % b)
 next-place {b} {rest} {t} turn less =
