@@ -16,11 +16,11 @@ use Rattle.bitvec_slice.specs.Showing.{ShowsElements}
 use Rattle.bitvec_closures.specs.InPlace.{StaysInPlace, WritesInPlace}
 use Rattle.bitvec_closures.specs.InPlaceLaws.{length-left, length-shown, piece-before, shown-fits, shown-within, stays-then}
 use Rattle.bitvec_domain.specs.Predicates.{Asked}
-use Rattle.bitvec_lent_split.specs.Lent.{GivesAllIn, GivesRangeIn, LeftIn, LimitedNextIn, LimitedSplitIn, SplitNextIn, SplitRestIn}
+use Rattle.bitvec_lent_split.specs.Lent.{GivesAllIn, GivesRangeIn, LeftIn, LimitedSplitIn, NextIn, SplitNextIn, SplitRestIn}
 use Rattle.bitvec_split.specs.Splits.{SplitRule, row_of}
 use Rattle.bitvec_closures.specs.ToSplit.{IsLeftOf, TakesFrom, left_at, limited_at, most_left}
 use Rattle.bitvec_closures.specs.declared.left.ToSplit.{ToSplit}
-use Rattle.bitvec_closures.specs.SplitEdits.{Editing, EditsNext, IsGivenPiece, MayEditGiven}
+use Rattle.bitvec_closures.specs.SplitEdits.{Editing, EditsGiven, EditsNext, IsGivenPiece, MayEditGiven}
 
 -- a range of two lists is the same where a wider one is
 kept-within : (a b : List Bool) (from to start end : ℕ) → slice_range a from to ≡ slice_range b from to → from ≤ start → start ≤ end → end ≤ to → to ≤ length a → to ≤ length b
@@ -40,7 +40,7 @@ module _ {T P : Type 0} (g : Mut P (ℕ × (Bor Bool × Unit {0})) Bool) (inclus
   gave-on row piece None all = record { start = all.start; end = all.end; view = refl; finished = all.finished }
   gave-on row piece (Some j) range = record { start = range.start; end = range.end; view = refl; from = range.from; to = range.to; finished = range.finished }
 
-  pub step-on : (result : Option (Range ℕ)) → slice_range now.bits left.from left.to ≡ slice_range view.bits left.from left.to
+  step-on : (result : Option (Range ℕ)) → slice_range now.bits left.from left.to ≡ slice_range view.bits left.from left.to
       → SplitNextIn g inclusive reversed (left_at now left pred) result (left_at now after then) → SplitNextIn g inclusive reversed (left_at view left pred) result (left_at view after then)
   step-on None same gave = (gave.0, ap (λ (s : LeftIn T P). left_at view (record { from = s.from; to = s.to; finished = s.finished }) s.pred) gave.1)
   step-on (Some piece) same gave =
@@ -52,12 +52,35 @@ module _ {T P : Type 0} (g : Mut P (ℕ × (Bor Bool × Unit {0})) Bool) (inclus
   either-on true piece same rest = (rest.0, record { start = rest.1.start; end = rest.1.end; view = refl; finished = rest.1.finished }, rest.2)
   either-on false piece same next = step-on (Some piece) same next
 
-  pub limited-on : (count less : ℕ) (result : Option (Range ℕ)) → slice_range now.bits left.from left.to ≡ slice_range view.bits left.from left.to
-      → LimitedNextIn g inclusive reversed (limited_at now left count pred) result (limited_at now after less then)
-      → LimitedNextIn g inclusive reversed (limited_at view left count pred) result (limited_at view after less then)
-  limited-on count less None same gave =
+  pub next-on : (limited : Bool) (count less : ℕ) (result : Option (Range ℕ)) → slice_range now.bits left.from left.to ≡ slice_range view.bits left.from left.to
+      → NextIn g inclusive reversed limited (limited_at now left count pred) result (limited_at now after less then)
+      → NextIn g inclusive reversed limited (limited_at view left count pred) result (limited_at view after less then)
+  next-on false count less result same gave = step-on result same gave
+  next-on true count less None same gave =
       (gave.0, ap (λ (s : LimitedSplitIn T P). limited_at view (record { from = s.left.from; to = s.left.to; finished = s.left.finished }) s.count s.left.pred) gave.1)
-  limited-on count less (Some piece) same gave = (gave.0, gave.1, either-on (count == 1) piece same gave.2)
+  next-on true count less (Some piece) same gave = (gave.0, gave.1, either-on (count == 1) piece same gave.2)
+
+module _ {T P : Type 0} (g : Mut P (ℕ × (Bor Bool × Unit {0})) Bool) (inclusive reversed : Bool) where
+  -- a split that has ended on one view has on another
+  pub ends-on : (now view : Seen T) (left : ToSplit) (pred : P) (limited : Bool) (count : ℕ) (t : LimitedSplitIn T P) → NextIn g inclusive reversed limited (limited_at now left count pred) None t
+      → NextIn g inclusive reversed limited (limited_at view left count pred) None (limited_at view left count pred)
+  ends-on now view left pred true count t ended = (ended.0, refl)
+  ends-on now view left pred false count t ended = (ended.0, refl)
+
+  -- the steps of a split that counts no pieces are those of what is left
+  gives-unlimited : (s t : LimitedSplitIn T P) (pieces : List (Range ℕ)) → FoldsTo (λ p r q. NextIn g inclusive reversed false p (Some r) q) s pieces t → FoldsTo (λ p r q. SplitNextIn g inclusive reversed p (Some r) q) s.left pieces t.left
+  gives-unlimited s t [] same = ap (λ (p : LimitedSplitIn T P). p.left) same
+  gives-unlimited s t (piece ∷ pieces) (next, gave, gives) = (next.left, gave, gives-unlimited next t pieces gives)
+
+  pub edits-unlimited : {V F : Type 0} {shows : V → Seen T} {named : V → GName} {writes : V → V → List Bool → Type 0} {step : F → ℕ → MutBor V → ⊤ → MutBor V → F → Type 0} {first : LimitedSplitIn T P} {before after : V} {edit : F}
+      → EditsGiven shows named writes step (NextIn g inclusive reversed false) first before edit after → EditsGiven shows named writes step (SplitNextIn g inclusive reversed) first.left before edit after
+  edits-unlimited edits = record {
+    pieces = edits.pieces;
+    gives = record { last = edits.gives.last.left; gives = gives-unlimited _ _ edits.pieces edits.gives.gives; ends = edits.gives.ends };
+    edits = edits.edits;
+    stays = edits.stays;
+    written = edits.written;
+  }
 
 module _ {V T F S : Type 0} (shows : V → Seen T) (named : V → GName) (step : F → ℕ → MutBor V → ⊤ → MutBor V → F → Type 0) (view : V) (next : S → Option (Range ℕ) → S → Type 0) (first : S) (edit : F) where
   -- What comes from here on ends what came from the start on: the split of the view before all edits is at `s`,

@@ -3,13 +3,14 @@ ghost use Rattle.std.specs.Prelude.{◌-◌, ◌<◌, IfSome, false, true};
 ghost use Rattle.bitvec_cutting.specs.Cutting.{cut};
 ghost use Rattle.bitvec_slice.specs.Indices.{HasRange};
 ghost use Rattle.bitvec_domain.specs.Predicates.{Asked, MayAsk};
-ghost use Rattle.bitvec_lent_split.specs.Lent.{LimitedNextIn, MayGoOnIn, SplitNextIn, unsplit_in};
+ghost use Rattle.bitvec_lent_split.specs.Lent.{LimitedNextIn, MayGoOnIn, NextIn, SplitNextIn, unsplit_in};
 ghost use Rattle.bitvec_split.specs.Splits.{asked_of, left_of_row, row_of};
 ghost use Rattle.bitvec_closures.specs.ToSplit.{IsLeftOf, TakesFrom, left_at, limited_at};
 ghost use Rattle.bitvec_closures.specs.SplitEdits.{EditsGiven, MayEditGiven};
 
 use crate::{EditParts, ToSplit};
 use bitvec_base::BitOrder;
+use bitvec_lent_split::{AtMost, Every, SplitLimit};
 use bitvec_slice::{Sealed, View};
 use bitvec_split::{Forward, Inclusive, Reversed, SplitKind, ask_row, cut_row};
 use bitvec_store::BitStore;
@@ -76,34 +77,11 @@ pub trait EditSplits<T: BitStore, O: BitOrder>: EditParts<T, O> {
         Some(from + piece.start..from + piece.end)
     }
 
-    /// Calls `edit` on each piece of a split in turn, and its number. Conditions: `pred` may be asked
-    /// about all bits; `edit` may be called on each piece, whatever it keeps from the calls before, and
-    /// leaves it in its place.
-    #[doc(hidden)]
-    final fn for_each_piece_between<
-        W: SplitKind,
-        P: FnMut(usize, &bool) -> bool,
-        F: FnMut(usize, &mut Self),
-    >(&mut self, mut pred: P, mut edit: F)
-        requires callable { MayGoOnIn P.FnMut (unsplit_in W.INCLUSIVE (Self.shows self.old) pred) }
-        requires edit { MayEditGiven Self.shows Self.named F.pre F.step edit self.old }
-        ensures { EditsGiven Self.shows Self.named Self.writes F.step (SplitNextIn P.FnMut W.INCLUSIVE W.REVERSED) (unsplit_in W.INCLUSIVE (Self.shows self.old) pred) self.old edit self.new }
-    {
-        let len = self.window().len;
-        let mut left = ToSplit::all::<W>(len);
-        let mut number = 0;
-        while let Some(range) = self.step::<W, P>(&mut left, &mut pred) {
-            let window = self.narrow(range);
-            edit(number, self);
-            self.stand_at(window, Sealed);
-            number += 1;
-        }
-    }
-
-    /// The range of the next piece of a limited split. Conditions: as for `step`.
+    /// The range of the next piece of a split that may give `count` pieces more, where `L` counts them.
+    /// Conditions: as for `step`.
     #[doc(hidden)]
     #[tactic(auto, using(bitvec_domain::specs::PredicatesLaws::may_ask_of_fewer, bitvec_domain::specs::PredicatesLaws::may_ask_unfinished))]
-    final fn limited_step<W: SplitKind, P: FnMut(usize, &bool) -> bool>(
+    final fn limited_step<W: SplitKind, L: SplitLimit, P: FnMut(usize, &bool) -> bool>(
         &self,
         left: &mut ToSplit,
         count: &mut usize,
@@ -111,10 +89,13 @@ pub trait EditSplits<T: BitStore, O: BitOrder>: EditParts<T, O> {
     ) -> Option<Range<usize>>
         requires inside { IsLeftOf (Self.shows self.now) left.old }
         requires callable { MayGoOnIn P.FnMut (left_at (Self.shows self.now) left.old pred.old) }
-        ensures piece { LimitedNextIn P.FnMut W.INCLUSIVE W.REVERSED (limited_at (Self.shows self.now) left.old count.old pred.old) result (limited_at (Self.shows self.now) left.new count.new pred.new) }
+        ensures piece { NextIn P.FnMut W.INCLUSIVE W.REVERSED L.LIMITED (limited_at (Self.shows self.now) left.old count.old pred.old) result (limited_at (Self.shows self.now) left.new count.new pred.new) }
         ensures callable { IfSome result (λ _. MayGoOnIn P.FnMut (left_at (Self.shows self.now) left.new pred.new)) }
         ensures takes { IfSome result (λ piece. TakesFrom left.old piece left.new) }
     {
+        if !L::LIMITED {
+            return self.step::<W, P>(left, pred);
+        }
         let range = match *count {
             0 => None,
             1 => left.finish(),
@@ -124,23 +105,25 @@ pub trait EditSplits<T: BitStore, O: BitOrder>: EditParts<T, O> {
         Some(range)
     }
 
-    /// Calls `edit` on each piece of a limited split in turn, and its number. Conditions: as for
-    /// `for_each_piece_between`.
+    /// Calls `edit` on each piece of a split in turn, on `count` at most where `L` counts them, and its number.
+    /// Conditions: `pred` may be asked about all bits; `edit` may be called on each piece, whatever it keeps
+    /// from the calls before, and leaves it in its place.
     #[doc(hidden)]
-    final fn for_each_limited_piece<
+    final fn for_each_piece_of<
         W: SplitKind,
+        L: SplitLimit,
         P: FnMut(usize, &bool) -> bool,
         F: FnMut(usize, &mut Self),
     >(&mut self, mut count: usize, mut pred: P, mut edit: F)
         requires callable { MayGoOnIn P.FnMut (unsplit_in W.INCLUSIVE (Self.shows self.old) pred) }
         requires edit { MayEditGiven Self.shows Self.named F.pre F.step edit self.old }
-        ensures { EditsGiven Self.shows Self.named Self.writes F.step (LimitedNextIn P.FnMut W.INCLUSIVE W.REVERSED)
+        ensures { EditsGiven Self.shows Self.named Self.writes F.step (NextIn P.FnMut W.INCLUSIVE W.REVERSED L.LIMITED)
             (record { left = unsplit_in W.INCLUSIVE (Self.shows self.old) pred; count = count }) self.old edit self.new }
     {
         let len = self.window().len;
         let mut left = ToSplit::all::<W>(len);
         let mut number = 0;
-        while let Some(range) = self.limited_step::<W, P>(&mut left, &mut count, &mut pred) {
+        while let Some(range) = self.limited_step::<W, L, P>(&mut left, &mut count, &mut pred) {
             let window = self.narrow(range);
             edit(number, self);
             self.stand_at(window, Sealed);
@@ -164,7 +147,7 @@ pub trait EditSplits<T: BitStore, O: BitOrder>: EditParts<T, O> {
         requires edit { MayEditGiven Self.shows Self.named F.pre F.step edit self.old }
         ensures { EditsGiven Self.shows Self.named Self.writes F.step (SplitNextIn P.FnMut false false) (unsplit_in false (Self.shows self.old) pred) self.old edit self.new }
     {
-        self.for_each_piece_between::<Forward, P, F>(pred, edit)
+        self.for_each_piece_of::<Forward, Every, P, F>(0, pred, edit)
     }
 
     /// Calls `edit` on each piece with the bit behind it, as `split_inclusive_mut` lends them: no empty piece
@@ -181,7 +164,7 @@ pub trait EditSplits<T: BitStore, O: BitOrder>: EditParts<T, O> {
         requires edit { MayEditGiven Self.shows Self.named F.pre F.step edit self.old }
         ensures { EditsGiven Self.shows Self.named Self.writes F.step (SplitNextIn P.FnMut true false) (unsplit_in true (Self.shows self.old) pred) self.old edit self.new }
     {
-        self.for_each_piece_between::<Inclusive, P, F>(pred, edit)
+        self.for_each_piece_of::<Inclusive, Every, P, F>(0, pred, edit)
     }
 
     /// The pieces of `for_each_split_mut` from the last to the first, as `rsplit_mut` lends them: `pred` is
@@ -199,7 +182,7 @@ pub trait EditSplits<T: BitStore, O: BitOrder>: EditParts<T, O> {
         requires edit { MayEditGiven Self.shows Self.named F.pre F.step edit self.old }
         ensures { EditsGiven Self.shows Self.named Self.writes F.step (SplitNextIn P.FnMut false true) (unsplit_in false (Self.shows self.old) pred) self.old edit self.new }
     {
-        self.for_each_piece_between::<Reversed, P, F>(pred, edit)
+        self.for_each_piece_of::<Reversed, Every, P, F>(0, pred, edit)
     }
 
     /// The first pieces of `for_each_split_mut`, `count` at most, as `splitn_mut` lends them: the last of so
@@ -219,7 +202,7 @@ pub trait EditSplits<T: BitStore, O: BitOrder>: EditParts<T, O> {
         ensures { EditsGiven Self.shows Self.named Self.writes F.step (LimitedNextIn P.FnMut false false)
             (record { left = unsplit_in false (Self.shows self.old) pred; count = count }) self.old edit self.new }
     {
-        self.for_each_limited_piece::<Forward, P, F>(count, pred, edit)
+        self.for_each_piece_of::<Forward, AtMost, P, F>(count, pred, edit)
     }
 
     /// The first pieces of `for_each_rsplit_mut`, `count` at most, as for `for_each_splitn_mut`.
@@ -238,6 +221,6 @@ pub trait EditSplits<T: BitStore, O: BitOrder>: EditParts<T, O> {
         ensures { EditsGiven Self.shows Self.named Self.writes F.step (LimitedNextIn P.FnMut false true)
             (record { left = unsplit_in false (Self.shows self.old) pred; count = count }) self.old edit self.new }
     {
-        self.for_each_limited_piece::<Reversed, P, F>(count, pred, edit)
+        self.for_each_piece_of::<Reversed, AtMost, P, F>(count, pred, edit)
     }
 }

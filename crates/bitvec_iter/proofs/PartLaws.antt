@@ -1,5 +1,5 @@
 -- A part of a view shows what the view shows at its indices.
-use Rattle.std.specs.Prelude.{◌≡◌, ℕ, ◌+◌, ◌-◌, ◌*◌, ◌%◌, ◌<◌, ◌≤◌, ◌↔◌, Bool, IfSome, IsSome, IsTrue, List, None, Option, Some, length, map, nat_lt, slice_range, refl, true}
+use Rattle.std.specs.Prelude.{◌≡◌, ℕ, ◌+◌, ◌<◌, ◌≤◌, ◌↔◌, Bool, IfSome, IsSome, IsTrue, List, None, Option, Some, false, length, map, nat_lt, slice_range, refl, true}
 use Rattle.std.proofs.Common.{arith, ◌∙◌, ap, sym}
 use Rattle.std.proofs.lemmas.Bool.Decides.{nat_tests}
 use Rattle.std.specs.declared.ops.Range.{Range}
@@ -7,20 +7,15 @@ use Rattle.bitvec_base.specs.Memory.{memory_bits}
 use Rattle.bitvec_base.specs.SliceLaws.{range-map}
 use Rattle.bitvec_cutting.specs.Cutting.{LiesIn, cut}
 use Rattle.bitvec_base.specs.MemoryLaws.{memory-range}
-use Rattle.bitvec_domain.specs.Refill.{with_range}
-use Rattle.bitvec_store.specs.Width.{IsWidth}
-use Rattle.bitvec_store.specs.WidthLaws.{width_some}
 use Rattle.bitvec_store.specs.declared.store.BitStore.{Ghosts as Store}
 use Rattle.bitvec_base.specs.declared.order.BitOrder.{Ghosts as Order}
 use Rattle.bitvec_domain.specs.declared.reference_mut.BitRefMut.{BitRefMut}
 use Rattle.bitvec_slice.specs.Indices.{WritesBitOf}
 use Rattle.bitvec_slice.specs.LentLaws.{bit-of_part}
 use Rattle.bitvec_slice.specs.MayLend.{IsBitOfView}
-use Rattle.bitvec_slice.specs.Seen.{IsGiven, IsRangeOf, Seen, shown}
-use Rattle.bitvec_slice.specs.SeenLaws.{part_view}
+use Rattle.bitvec_slice.specs.Seen.{IsGiven, IsRangeOf, Seen}
 use Rattle.bitvec_slice.specs.ShowingLaws.{shows-seen}
-use Rattle.bitvec_slice.specs.Touched.{end_touched, first_touched}
-use Rattle.bitvec_slice.specs.TouchedLaws.{touched_end, touched_few, touched_holds, touches}
+use Rattle.bitvec_slice.specs.TouchedLaws.{touches}
 use Rattle.bitvec_slice.specs.Views.{seen, seen_mut}
 use Rattle.bitvec_slice.specs.declared.view.BitSlice.{BitSlice}
 use Rattle.bitvec_slice.specs.declared.view_mut.BitSliceMut.{BitSliceMut}
@@ -48,31 +43,16 @@ module _ {T O : Type 0} {t : Store T} {o : Order O} (view part : BitSlice T O t 
       ∙ memory-range t.BITS o.at xs _ _ some are.order are.bound)
       is.start is.len
 
--- the elements from `start` up to `end` are those that the bits from the index `from` up to `to` touch
-module _ {X : Type 0} {b : ℕ} (xs : List X) (head len from to : ℕ) {start end : ℕ} (width : IsWidth b) (inside : head + len ≤ b * length xs) (order : from ≤ to) (bound : to ≤ len) (first : start ≡ first_touched b (head + from)) (last : end ≡ end_touched b (head + to)) where
-  pub part-end : end ≤ length xs
-  part-end = rw last (touched_end b xs head len from to (width_some b width) inside order bound)
-
-  -- what is left there is left in their lender
-  pub part-left : {Y : Type 0} (end_as : List X → Y) (ws : List X) → end_as (with_range xs start end ws) ≡ end_as (with_range xs (first_touched b (head + from)) (end_touched b (head + to)) ws)
-  part-left end_as ws = rw (first, last) refl
-
-  module _ {skip : ℕ} {ys : List X} (are : ys ≡ slice_range xs start end) (is : skip ≡ (head + from) % b) where
-    pub part-holds : skip + (to - from) ≤ b * length ys
-    part-holds = rw (is, are, first, last) (touched_holds b xs head len from to (width_some b width) inside order bound)
-
-    pub part-few : (most : ℕ) → b * length xs ≤ most → b * length ys ≤ most
-    part-few most few = rw (are, first, last) (touched_few b xs head len from to (width_some b width) inside order bound most few)
-
-    pub part-shown : (at : ℕ → ℕ → ℕ) (value : X → ℕ) (part : Seen X) → part ≡ shown b at value ys skip (to - from) → IsRangeOf b (shown b at value xs head len) from to part
-    part-shown at value part view = part_view b at value xs head len inside part from to width order bound (rw (are, first, last, is) at view)
-
 -- the bits of a part of a view of which it is known what it shows
 pub shown-bits : {T : Type 0} (bits : List Bool) (view whole : Seen T) (range place : Range ℕ) → bits ≡ slice_range view.bits range.start range.end → view ≡ whole → range ≡ place → bits ≡ cut whole.bits place
 shown-bits bits view whole range place is shows there = rw (← there, ← shows) is
 
-tested : (m n : ℕ) → (nat_lt m n ≡ true) ↔ (m < n)
+-- what a test of two numbers says
+pub tested : (m n : ℕ) → (nat_lt m n ≡ true) ↔ (m < n)
 tested m n = ((λ is. grind (arith, nat_tests)), λ is. grind (arith, nat_tests))
+
+pub untested : (m n : ℕ) → n ≤ m → nat_lt m n ≡ false
+untested m n none = grind (arith, nat_tests)
 
 -- a reference to a bit, which is given exactly where one was lent
 module _ {T O : Type 0} {t : Store T} {o : Order O} {view : Seen T} {index m n : ℕ} {has : Bool} (part : BitSliceMut T O t o) where

@@ -31,7 +31,7 @@ impl<'a, T: BitStore, O: BitOrder> IterMut<'a, T, O> {
     ghost use Rattle.bitvec_domain.specs.References.{name_of_ref_mut};
     ghost use Rattle.bitvec_slice.specs.Indices.{WritesBitOf};
     ghost use Rattle.bitvec_slice.specs.Lending.{lends};
-    ghost use Rattle.bitvec_slice.specs.Seen.{IsGiven, IsRangeOf, shown};
+    ghost use Rattle.bitvec_slice.specs.Seen.{IsGiven, IsRangeOf};
     ghost use Rattle.bitvec_slice.specs.Views.{name_of, seen, seen_mut};
     ghost use Rattle.bitvec_iter.specs.BitsLending.{lends_bits, lends_first, lends_last, lends_part, passed, passed_back};
     ghost use Rattle.bitvec_iter.specs.LentBits.{IsAllOf, WritesLeft, bit_walk_of, bits_in_place, bits_to_come, name_of_bits, past_back_bits, past_bits, start_of};
@@ -44,17 +44,8 @@ impl<'a, T: BitStore, O: BitOrder> IterMut<'a, T, O> {
         ensures walk { IsAllOf (seen_mut bits.old) (bit_walk_of result) }
     {
         let window = bits.window();
-        IterMut::from_parts(bits.elements_mut(Sealed), window)
-    }
-
-    fn from_parts(elements: &'a mut [T], window: Window) -> Self
-        requires inside { window.start + window.len ≤ T.BITS * length elements.old }
-        requires fits { T.BITS * length elements.old ≤ max_bits }
-        ensures walk { IsAllOf (shown T.BITS O.at T.value elements.old window.start window.len) (bit_walk_of result) }
-        ensures name { name_of_bits result ≡ elements.entry.ghost_name }
-    {
         IterMut {
-            elements,
+            elements: bits.elements_mut(Sealed),
             head: window.start,
             len: window.len,
             front: 0,

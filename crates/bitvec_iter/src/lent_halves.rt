@@ -2,7 +2,7 @@
 ghost use Rattle.std.specs.Prelude.{◌≡◌, ◌+◌, ◌*◌, ◌≤◌, length, slice_range};
 ghost use Rattle.bitvec_base.specs.Window.{max_bits};
 
-use bitvec_base::{BitOrder, Window};
+use bitvec_base::BitOrder;
 use bitvec_slice::{BitSliceMut, Sealed, ViewMut, phase_of, touched_range};
 use bitvec_store::BitStore;
 use std::marker::PhantomData;
@@ -29,7 +29,7 @@ pub struct HalvesMut<'a, T: BitStore, O: BitOrder> {
 impl<'a, T: BitStore, O: BitOrder> HalvesMut<'a, T, O> {
     ghost use Rattle.std.specs.Borrow.{sem};
     ghost use Rattle.bitvec_slice.specs.Lending.{lends};
-    ghost use Rattle.bitvec_slice.specs.Seen.{IsRangeOf, shown};
+    ghost use Rattle.bitvec_slice.specs.Seen.{IsRangeOf};
     ghost use Rattle.bitvec_slice.specs.Views.{name_of, seen_mut};
     ghost use Rattle.bitvec_iter.specs.HalvesLending.{lends_bits, lends_part};
     ghost use Rattle.bitvec_iter.specs.Halves.{IsCutOf, mid_of, name_of_halves, seen_halves};
@@ -43,19 +43,8 @@ impl<'a, T: BitStore, O: BitOrder> HalvesMut<'a, T, O> {
         ensures halves { IsCutOf (seen_mut bits.old) mid result }
     {
         let window = bits.window();
-        HalvesMut::from_parts(bits.elements_mut(Sealed), window, mid)
-    }
-
-    fn from_parts(elements: &'a mut [T], window: Window, mid: usize) -> Self
-        requires inside { window.start + window.len ≤ T.BITS * length elements.old }
-        requires fits { T.BITS * length elements.old ≤ max_bits }
-        requires bound { mid ≤ window.len }
-        ensures view { seen_halves result ≡ shown T.BITS O.at T.value elements.old window.start window.len }
-        ensures mid { mid_of result ≡ mid }
-        ensures name { name_of_halves result ≡ elements.entry.ghost_name }
-    {
         HalvesMut {
-            elements,
+            elements: bits.elements_mut(Sealed),
             head: window.start,
             mid,
             len: window.len,

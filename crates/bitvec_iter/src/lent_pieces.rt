@@ -2,7 +2,7 @@
 ghost use Rattle.std.specs.Prelude.{◌≡◌, ◌+◌, ◌-◌, ◌*◌, ◌<◌, ◌≤◌, false, length, nat_le, slice_range};
 ghost use Rattle.bitvec_base.specs.Window.{max_bits};
 
-use bitvec_base::{BitOrder, Window};
+use bitvec_base::BitOrder;
 use bitvec_cutting::{Cutting, InChunks, InChunksFromEnd, InExactChunks, InExactChunksFromEnd};
 use bitvec_slice::{BitSliceMut, Sealed, ViewMut, phase_of, touched_range};
 use bitvec_store::BitStore;
@@ -46,7 +46,7 @@ pub type RChunksExactMut<'a, T, O> = PiecesMut<'a, T, O, InExactChunksFromEnd>;
 impl<'a, T: BitStore, O: BitOrder, C: Cutting> PiecesMut<'a, T, O, C> {
     ghost use Rattle.std.specs.Borrow.{sem};
     ghost use Rattle.bitvec_slice.specs.Lending.{lends};
-    ghost use Rattle.bitvec_slice.specs.Seen.{IsGiven, IsRangeOf, shown};
+    ghost use Rattle.bitvec_slice.specs.Seen.{IsGiven, IsRangeOf};
     ghost use Rattle.bitvec_slice.specs.Views.{name_of, seen_mut};
     ghost use Rattle.bitvec_iter.specs.LentWalk.{IsPieceOfWalk, IsWalkOf, past, past_back};
     ghost use Rattle.bitvec_iter.specs.PiecesLending.{lends_bits, lends_first, lends_last, lends_part, passed, passed_back};
@@ -60,18 +60,8 @@ impl<'a, T: BitStore, O: BitOrder, C: Cutting> PiecesMut<'a, T, O, C> {
         ensures cutting { (walk_of result).cutting ≡ cutting }
     {
         let window = bits.window();
-        PiecesMut::from_parts(bits.elements_mut(Sealed), window, cutting)
-    }
-
-    fn from_parts(elements: &'a mut [T], window: Window, cutting: C) -> Self
-        requires inside { window.start + window.len ≤ T.BITS * length elements.old }
-        requires fits { T.BITS * length elements.old ≤ max_bits }
-        ensures walk { IsWalkOf (shown T.BITS O.at T.value elements.old window.start window.len) (C.pieces cutting window.len) (walk_of result) }
-        ensures cutting { (walk_of result).cutting ≡ cutting }
-        ensures name { name_of_pieces result ≡ elements.entry.ghost_name }
-    {
         PiecesMut {
-            elements,
+            elements: bits.elements_mut(Sealed),
             head: window.start,
             len: window.len,
             front: 0,

@@ -5,7 +5,6 @@ ghost use Rattle.std.specs.List.{join_by};
 ghost use Rattle.bitvec_domain.specs.Listing.{bits_text, comma, listed};
 ghost use Rattle.bitvec_iter.specs.LentWalk.{lists_left};
 
-use crate::texts::{close_list, open_list};
 use crate::{HalvesMut, IterMut, PiecesMut};
 use bitvec_base::BitOrder;
 use bitvec_cutting::Cutting;
@@ -60,9 +59,9 @@ impl<'a, T: BitStore, O: BitOrder, C: Cutting> fmt::Debug for PiecesMut<'a, T, O
 
     #[tactic(auto, unfolding(bitvec_domain::specs::Listing::listed))]
     fn fmt<W: fmt::Write>(&self, f: &mut fmt::Formatter<W>) -> fmt::Result {
-        open_list("PiecesMut", f)?;
+        f.write_str("PiecesMut([")?;
         self.write_pieces(f)?;
-        close_list(f)
+        f.write_str("])")
     }
 }
 

@@ -1,5 +1,5 @@
 //! The texts of walks over pieces.
-ghost use Rattle.std.specs.Prelude.{◌++◌, Some, codes};
+ghost use Rattle.std.specs.Prelude.{Some, codes};
 ghost use Rattle.std.specs.Fmt.{WritesOnOk, debug_variant};
 ghost use Rattle.std.specs.List.{join_by};
 ghost use Rattle.bitvec_domain.specs.Listing.{bits_text, comma, listed};
@@ -19,27 +19,10 @@ impl<'a, T: BitStore, O: BitOrder, C: Cutting> fmt::Debug for Pieces<'a, T, O, C
 
     #[tactic(auto, unfolding(bitvec_domain::specs::Listing::listed))]
     fn fmt<W: fmt::Write>(&self, f: &mut fmt::Formatter<W>) -> fmt::Result {
-        open_list("Pieces", f)?;
+        f.write_str("Pieces([")?;
         self.write_pieces(f)?;
-        close_list(f)
+        f.write_str("])")
     }
-}
-
-/// Writes the name of a list, and what opens it.
-pub(crate) fn open_list<W: fmt::Write>(name: &str, f: &mut fmt::Formatter<W>) -> fmt::Result
-    ensures { WritesOnOk W.write_str_gives f.old result (name.now ++ codes "([") f.new }
-{
-    f.write_str(name)?;
-    f.write_str("(")?;
-    f.write_str("[")
-}
-
-/// Writes what closes it.
-pub(crate) fn close_list<W: fmt::Write>(f: &mut fmt::Formatter<W>) -> fmt::Result
-    ensures { WritesOnOk W.write_str_gives f.old result (codes "])") f.new }
-{
-    f.write_str("]")?;
-    f.write_str(")")
 }
 
 impl<'a, T: BitStore, O: BitOrder, C: Cutting> Pieces<'a, T, O, C> {

@@ -83,7 +83,7 @@ impl<'a, T: BitStore, O: BitOrder, P: FnMut(usize, &bool) -> bool, W: SplitKind>
         ensures name { name_of_splits self.new ≡ name_of_splits self.old }
     {
         let bits = look::<T, O>(&self.elements, self.head, self.len);
-        let Some(range) = self.state.step_behind(bits) else {
+        let Some(range) = self.state.step_from(bits, !W::REVERSED) else {
             return false;
         };
         self.found = range;

@@ -4,7 +4,7 @@ ghost use Rattle.bitvec_slice.specs.Seen.{shown};
 ghost use Rattle.bitvec_slice.specs.Views.{seen};
 ghost use Rattle.bitvec_base.specs.Window.{max_bits};
 ghost use Rattle.bitvec_lent_split.specs.SplitStates.{left_on, limited_on};
-ghost use Rattle.bitvec_lent_split.specs.Lent.{MayGoOnIn, NextIn, SplitNextBackIn, SplitRestIn, SplitStepIn, StaysIn, capped, least_in, most_in, uncut_in, unsplit_in};
+ghost use Rattle.bitvec_lent_split.specs.Lent.{MayGoOnIn, NextIn, SplitRestIn, SplitStepIn, StaysIn, capped, least_in, most_in, uncut_in, unsplit_in};
 ghost use Rattle.bitvec_split.specs.Splits.{row_of};
 
 use crate::SplitLimit;
@@ -73,9 +73,9 @@ impl<P: FnMut(usize, &bool) -> bool, W: SplitKind, L: SplitLimit> SplitState<P, 
         }
     }
 
-    // The next piece from the front of what is left, or from the back, as a range of the view.
+    /// The next piece from the front of what is left, or from the back, as a range of the view.
     #[tactic(auto, using(bitvec_domain::specs::PredicatesLaws::may_ask_of_fewer, bitvec_domain::specs::PredicatesLaws::may_ask_unfinished))]
-    fn step_from<T: BitStore, O: BitOrder>(
+    pub(crate) fn step_from<T: BitStore, O: BitOrder>(
         &mut self,
         bits: BitSlice<'_, T, O>,
         back: bool,
@@ -99,18 +99,6 @@ impl<P: FnMut(usize, &bool) -> bool, W: SplitKind, L: SplitLimit> SplitState<P, 
         self.to = start + rest.end;
         self.finished = W::INCLUSIVE && self.from == self.to;
         Some(start + piece.start..start + piece.end)
-    }
-
-    /// A step from the other end.
-    pub(crate) fn step_behind<T: BitStore, O: BitOrder>(
-        &mut self,
-        bits: BitSlice<'_, T, O>,
-    ) -> Option<Range<usize>>
-        requires { MayGoOnIn P.FnMut (left_on (seen bits) self.old) }
-        ensures stays { StaysIn (left_on (seen bits.entry) self.old) result (left_on (seen bits.entry) self.new) }
-        ensures piece { SplitNextBackIn P.FnMut W.INCLUSIVE W.REVERSED (left_on (seen bits.entry) self.old) result (left_on (seen bits.entry) self.new) }
-    {
-        self.step_from(bits, !W::REVERSED)
     }
 
     // All that is left, unasked, as a range of the view.

@@ -8,6 +8,7 @@ pub mod Lending
 pub mod LentLaws
 pub mod MayLend
 pub mod NthLaws
+pub mod PartLaws
 pub mod Seen
 pub mod SeenLaws
 pub mod Showing

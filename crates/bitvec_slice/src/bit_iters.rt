@@ -25,8 +25,10 @@ impl<'a, T: BitStore, O: BitOrder> Iterator for BitRefIter<'a, T, O> {
 
     /// The first of the bits that are still to come.
     fn next(&mut self) -> Option<&'a bool> {
-        let bit = self.bits.next()?;
-        Some(if *bit { &true } else { &false })
+        match self.bits.next() {
+            Some(bit) => Some(if *bit { &true } else { &false }),
+            None => None,
+        }
     }
 
     fn size_hint(&self) -> (usize, Option<usize>)
@@ -45,8 +47,10 @@ impl<'a, T: BitStore, O: BitOrder> DoubleEndedIterator for BitRefIter<'a, T, O> 
 
     /// The last of the bits that are still to come.
     fn next_back(&mut self) -> Option<&'a bool> {
-        let bit = self.bits.next_back()?;
-        Some(if *bit { &true } else { &false })
+        match self.bits.next_back() {
+            Some(bit) => Some(if *bit { &true } else { &false }),
+            None => None,
+        }
     }
 }
 
@@ -76,8 +80,10 @@ impl<'a, T: BitStore, O: BitOrder> Iterator for BitValIter<'a, T, O> {
 
     /// The first of the bits that are still to come.
     fn next(&mut self) -> Option<bool> {
-        let bit = self.bits.next()?;
-        Some(*bit)
+        match self.bits.next() {
+            Some(bit) => Some(*bit),
+            None => None,
+        }
     }
 
     fn size_hint(&self) -> (usize, Option<usize>)
@@ -96,8 +102,10 @@ impl<'a, T: BitStore, O: BitOrder> DoubleEndedIterator for BitValIter<'a, T, O> 
 
     /// The last of the bits that are still to come.
     fn next_back(&mut self) -> Option<bool> {
-        let bit = self.bits.next_back()?;
-        Some(*bit)
+        match self.bits.next_back() {
+            Some(bit) => Some(*bit),
+            None => None,
+        }
     }
 }
 

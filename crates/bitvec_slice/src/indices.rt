@@ -108,8 +108,9 @@ impl<'a, T: BitStore, O: BitOrder> BitSliceMut<'a, T, O> {
         ensures* writes_back { sem 𝓛 (lends_bits T.row O.row self.entry range.start range.end (name_of result)) }
         ensures part { IsRangeOf T.BITS (seen_mut self.old) range.start range.end (seen_mut result) }
     {
-        let start = self.window().start + range.start;
-        let touched = touched_range::<T>(start, self.window().start + range.end);
+        let window = self.window();
+        let start = window.start + range.start;
+        let touched = touched_range::<T>(start, window.start + range.end);
         let elements = self.elements_part_mut(touched.start, touched.end);
         BitSliceMut::from_parts(elements, phase_of::<T>(start), range.end - range.start)
     }

@@ -111,8 +111,10 @@ impl<'a, T: BitStore, O: BitOrder> Iterator for Iter<'a, T, O> {
     /// The first of the bits that are still to come.
     #[tactic(auto, using(crate::specs::WalkLaws::stepping))]
     fn next(&mut self) -> Option<BitRef<'a, T, O>> {
-        let index = self.indices.next()?;
-        Some(self.view.into_bit(index))
+        match self.indices.next() {
+            Some(index) => Some(self.view.into_bit(index)),
+            None => None,
+        }
     }
 
     #[tactic(auto, using(crate::specs::WalkLaws::stepping))]
@@ -134,8 +136,10 @@ impl<'a, T: BitStore, O: BitOrder> DoubleEndedIterator for Iter<'a, T, O> {
     /// The last of the bits that are still to come.
     #[tactic(auto, using(crate::specs::WalkLaws::stepping))]
     fn next_back(&mut self) -> Option<BitRef<'a, T, O>> {
-        let index = self.indices.next_back()?;
-        Some(self.view.into_bit(index))
+        match self.indices.next_back() {
+            Some(index) => Some(self.view.into_bit(index)),
+            None => None,
+        }
     }
 }
 

@@ -1,14 +1,14 @@
-use Rattle.std.proofs.Common.{◌≡◌, true, false, nat_lt, sym, refl, ◌∙◌, rules, arith}
-use Rattle.std.proofs.lemmas.Bool.Decides.{nat_tests}
+use Rattle.std.proofs.Common.{◌≡◌, true, false, nat_lt, sym, refl, ◌∙◌, rules}
 use Rattle.bitvec_slice.specs.LentLaws.{is-none, is-some}
+use Rattle.bitvec_iter.proofs.PartLaws.{tested, untested}
 use Rattle.bitvec_iter.proofs.lent_pieces.PiecesMut.next_lent.Goals as goal
 
 pub returns-then-self : goal.returns-then-self
 returns-then-self g c =
-    let left : nat_lt c.args.self.now.front c.args.self.now.back ≡ true = grind (arith, nat_tests, c.if-self.true) in
+    let left : nat_lt c.args.self.now.front c.args.self.now.back ≡ true = (tested _ _).1 c.if-self.true in
     ((refl, λ w. is-some _ _ _ left), record { writes_back = tt; lent = c.lent_first.ensures.lent ∙ sym left; piece = λ _. c.lent_first.ensures.piece })
 
 pub returns : goal.returns
 returns g c =
-    let none : nat_lt c.args.self.now.front c.args.self.now.back ≡ false = grind (arith, nat_tests, c.if-self.false) in
+    let none : nat_lt c.args.self.now.front c.args.self.now.back ≡ false = untested _ _ c.if-self.false in
     ((refl, λ w. is-none _ _ _ none), record { writes_back = tt; lent = c.lent_nothing.ensures.lent ∙ sym none; piece = search rules })

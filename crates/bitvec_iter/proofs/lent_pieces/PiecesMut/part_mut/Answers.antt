@@ -1,5 +1,5 @@
 use Rattle.std.proofs.Common.{sym}
-use Rattle.bitvec_iter.proofs.PartLaws.{part-end, part-few, part-holds, part-left, part-shown}
+use Rattle.bitvec_slice.specs.PartLaws.{part-end, part-few, part-holds, part-left, part-shown}
 use Rattle.bitvec_iter.specs.PiecesLending.{with_elements}
 use Rattle.bitvec_iter.proofs.lent_pieces.PiecesMut.part_mut.Goals as goal
 

@@ -1,6 +1,10 @@
 use Rattle.std.specs.Prelude.{◌-◌, refl}
+use Rattle.std.proofs.Common.{arith}
 use Rattle.bitvec_iter.proofs.LentPiecesLaws.{part-at, same-lent}
 use Rattle.bitvec_iter.proofs.lent_pieces.PiecesMut.take_back_mut.Goals as goal
+
+pub piece-range-requires : goal.piece-range-requires
+piece-range-requires g c = omega (arith, c.args.self.now.numbered)
 
 pub returns : goal.returns
 returns g c =

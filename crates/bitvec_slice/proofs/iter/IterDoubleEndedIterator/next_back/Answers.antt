@@ -8,12 +8,12 @@ use Rattle.bitvec_slice.proofs.iter.IterDoubleEndedIterator.next_back.Goals as g
 one-less : (end rest : ℕ) → end ≡ rest + 1 → rest ≡ end - 1
 one-less end rest is = omega arith
 
-pub returns-clause-steps : goal.returns-clause-steps
+pub returns-in-Some-clause-steps : goal.returns-in-Some-clause-steps
 unfolding remaining_bits
-returns-clause-steps g c =
+returns-in-Some-clause-steps g c =
     let bits = (seen c.args.self.now.view).bits in
-    let start = c.in_ok-index.ensures.steps.0 in
-    let last = c.in_ok-index.ensures.steps.1 in
+    let start = c.in-Some.ensures.steps.0 in
+    let last = c.in-Some.ensures.steps.1 in
     let end = one-less c.args.self.now.indices.end c.next_back.new.self.end last.2 in
     let bit = c.into_bit.ensures ∙ ap (λ (index : ℕ). slice_index_or bits index false) (last.1 ∙ end) in
     let ends = last.2 in
@@ -22,5 +22,5 @@ returns-clause-steps g c =
       record { view = refl; start = start; end = omega arith },
     )
 
-pub returns-clause-goes : goal.returns-clause-goes
-returns-clause-goes g c = grind (arith, left_length)
+pub returns-in-Some-clause-goes : goal.returns-in-Some-clause-goes
+returns-in-Some-clause-goes g c = grind (arith, left_length)

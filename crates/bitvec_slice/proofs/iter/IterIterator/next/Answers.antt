@@ -5,12 +5,12 @@ use Rattle.bitvec_slice.specs.WalkLaws.{left_first, left_length}
 use Rattle.bitvec_slice.specs.Walks.{remaining_bits}
 use Rattle.bitvec_slice.proofs.iter.IterIterator.next.Goals as goal
 
-pub returns-clause-steps : goal.returns-clause-steps
+pub returns-in-Some-clause-steps : goal.returns-in-Some-clause-steps
 unfolding remaining_bits
-returns-clause-steps g c =
+returns-in-Some-clause-steps g c =
     let bits = (seen c.args.self.now.view).bits in
-    let end = c.in_ok-index.ensures.steps.0 in
-    let first = c.in_ok-index.ensures.steps.1 in
+    let end = c.in-Some.ensures.steps.0 in
+    let first = c.in-Some.ensures.steps.1 in
     let bit = c.into_bit.ensures ∙ ap (λ (index : ℕ). slice_index_or bits index false) first.1 in
     let begins = first.2 in
     let some = first.0 in (
@@ -18,5 +18,5 @@ returns-clause-steps g c =
       record { view = refl; start = omega arith; end = end },
     )
 
-pub returns-clause-goes : goal.returns-clause-goes
-returns-clause-goes g c = grind (arith, left_length)
+pub returns-in-Some-clause-goes : goal.returns-in-Some-clause-goes
+returns-in-Some-clause-goes g c = grind (arith, left_length)
