@@ -111,10 +111,10 @@ module _ {T : Type 0} (b : ℕ) (at : ℕ → ℕ → ℕ) (value : T → ℕ) (
 
     -- such elements were added, the last of the others were filled, and the bits behind those that were asked for are 0
     pub filled : (old between new : List T) (end count n : ℕ) → n ≡ length old → n ≡ div_ceil end b
-        → between ≡ old ++ replicate (div_ceil (end + count) b - n) x → length new ≡ length between
+        → between ≡ take (div_ceil (end + count) b) old ++ replicate (div_ceil (end + count) b - n) x → length new ≡ length between
         → bits_of new ≡ write_at (write_at (bits_of between) end (replicate (rest_bits b end) bit)) (end + count) (replicate (rest_bits b (end + count)) false)
         → LeavesFront b at value old new end (take end (bits_of old) ++ replicate count bit)
-    filled old between new end count n size touched added many wrote =
+    filled old between new end count n size touched made many wrote =
         let total = div_ceil (end + count) b in
         let d = total - length old in
         let below = div_ceil_times end b some in
@@ -122,6 +122,7 @@ module _ {T : Type 0} (b : ℕ) (at : ℕ → ℕ → ℕ) (value : T → ℕ) (
         let fewer : div_ceil end b ≤ total = fewest b some end total (omega arith) in
         let rest : total - n ≡ d = ap (λ (k : ℕ). total - k) size in
         let order : length old ≤ total = rw (← size, touched) fewer in
+        let added : between ≡ old ++ replicate (total - n) x = made ∙ ap (λ (l : List T). l ++ replicate (total - n) x) (take_all total old order) in
         let both : length between ≡ total =
         ap length added ∙ length-append old (replicate (total - n) x) ∙ ap (λ (k : ℕ). length old + k) (length-replicate (total - n) x) ∙ omega arith in
         let places = length-memory b at value old in

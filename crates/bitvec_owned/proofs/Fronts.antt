@@ -4,19 +4,19 @@ use Rattle.std.specs.Int.{div_ceil}
 use Rattle.std.proofs.Common.{◌∙◌, ap, arith, length-append, sym}
 use Rattle.std.proofs.Math.Nat.{mul-le-mul_left}
 use Rattle.std.proofs.lemmas.Grind.{div_ceil_times}
-use Rattle.std.proofs.lemmas.List.{drop-append-le, length-map, length-replicate, length-take-le, map-append, take-append-le, take-map, take-take}
+use Rattle.std.proofs.lemmas.List.{drop-append-le, length-map, length-replicate, length-take-le, map-append, take-append-le, take-map, take-take, take_all}
 use Rattle.std.proofs.lemmas.Slice.{between_from_start}
 use Rattle.bitvec_base.specs.FilledLaws.{bits-zeros}
-use Rattle.bitvec_base.specs.Memory.{memory_bits}
+use Rattle.bitvec_base.specs.Memory.{HasWindow, Writes, memory_bits}
 use Rattle.bitvec_base.specs.MemoryLaws.{memory-append, memory-range}
 use Rattle.bitvec_base.specs.SliceLaws.{range-rest}
-use Rattle.bitvec_base.specs.Window.{window_of, write_at}
+use Rattle.bitvec_base.specs.Window.{max_bits, window_of, write_at}
 use Rattle.bitvec_slice.specs.Seen.{shown}
 use Rattle.bitvec_slice.specs.SeenLaws.{length-memory, length_bits}
-use Rattle.bitvec_copying.specs.ElementsLaws.{numbers}
+use Rattle.bitvec_copying.specs.ElementsLaws.{numbers, refilled, same_length}
 use Rattle.bitvec_owned.specs.Copies.{Holds, KeepsAround}
 use Rattle.bitvec_owned.specs.Fronts.{LeavesFront}
-use Rattle.bitvec_owned.proofs.Rooms.{fewest}
+use Rattle.bitvec_owned.proofs.Rooms.{fewest, touched-inside}
 use Rattle.bitvec_owned.proofs.FrontLists.{cut-front, cut-zeros, grown-front, grown-zeros, taken-front, taken-zeros, write_around, zeros_before, zeros_behind}
 
 pub times : (b x d c : ℕ) → x + d ≡ c → b * x + b * d ≡ b * c
@@ -45,6 +45,12 @@ module _ {T : Type 0} (b : ℕ) (at : ℕ → ℕ → ℕ) (value : T → ℕ) (
       ap (memory_bits b at) (map-append value elements (replicate n none) ∙ ap (λ (l : List ℕ). xs ++ l) (numbers value none n is))
       ∙ memory-append b at xs ys some
       ∙ ap (λ (l : List Bool). memory_bits b at xs ++ l) (bits-zeros b at ys (rw many refl) ∙ rw many refl)
+
+  -- a window of bits that lie in so many elements
+  pub has-window : (elements : List T) (n start len : ℕ) → length elements ≡ n → b * n ≤ max_bits → start + len ≤ b * n → HasWindow b (map value elements) (record { start = start; len = len })
+  has-window elements n start len size fits room =
+      let bits = ap (λ (k : ℕ). b * k) (length-map elements value ∙ size) in
+      record { fits = omega arith; within = record { start = omega arith; len = omega arith } }
 
   -- ---- what follows from what was left
 
@@ -139,12 +145,16 @@ module _ {T : Type 0} (b : ℕ) (at : ℕ → ℕ → ℕ) (value : T → ℕ) (
   -- ---- what edits of elements leave
 
   -- elements that are 0 were added, and a list was written
-  grown_from : (none : T) (old between new : List T) (end : ℕ) (list : List Bool) → value none ≡ 0 → end ≤ b * length old
-      → between ≡ old ++ replicate (div_ceil (end + length list) b - length old) none → length old ≤ div_ceil (end + length list) b → length new ≡ length between
+  grown : (none : T) (old between new : List T) (end : ℕ) (list : List Bool) → value none ≡ 0 → length old ≡ div_ceil end b
+      → between ≡ take (div_ceil (end + length list) b) old ++ replicate (div_ceil (end + length list) b - length old) none → length new ≡ length between
       → bits_of new ≡ write_at (bits_of between) end list → LeavesFront b at value old new end (take end (bits_of old) ++ list)
-  grown_from none old between new end list is inside added fewer many wrote =
+  grown none old between new end list is touched made many wrote =
       let count = div_ceil (end + length list) b in
       let size = length-memory b at value old in
+      let below = div_ceil_times (end + length list) b some in
+      let inside = touched-inside b some end (length old) touched in
+      let fewer : length old ≤ count = rw touched (fewest b some end count (omega arith)) in
+      let added : between ≡ old ++ replicate (count - length old) none = made ∙ ap (λ (l : List T). l ++ replicate (count - length old) none) (take_all count old fewer) in
       let front : length (take end (bits_of old)) ≡ end = length-take-le end (bits_of old) (omega arith) in
       let long : length (take end (bits_of old) ++ list) ≡ end + length list = length-append (take end (bits_of old)) list ∙ ap (λ (k : ℕ). k + length list) front in
       let both : length between ≡ count = ap length added ∙ length-append old (replicate (count - length old) none) ∙ ap (λ (k : ℕ). length old + k) (length-replicate (count - length old) none) ∙ omega arith in
@@ -158,15 +168,19 @@ module _ {T : Type 0} (b : ℕ) (at : ℕ → ℕ → ℕ) (value : T → ℕ) (
         zeros = λ behind. rw (long, total, ← sum, ← size) (grown-zeros (bits_of old) (bits_of new) list end (b * (count - length old)) (omega arith) written (rw size behind));
       }
 
-  pub grown : (none : T) (old between new : List T) (end : ℕ) {more n : ℕ} (list : List Bool) → value none ≡ 0 → n ≡ length old → n ≡ div_ceil end b → more ≡ length list
-      → between ≡ old ++ replicate (div_ceil (end + more) b - n) none → length new ≡ length between
-      → bits_of new ≡ write_at (bits_of between) end list → LeavesFront b at value old new end (take end (bits_of old) ++ list)
-  grown none old between new end {more} {n} list is size touched long added many wrote =
-      let below = div_ceil_times end b some in
-      let above = div_ceil_times (end + more) b some in
-      let fewer : div_ceil end b ≤ div_ceil (end + more) b = fewest b some end (div_ceil (end + more) b) (omega arith) in
-      let inside : end ≤ b * length old = rw (← size, touched) (omega arith) in
-      grown_from none old between new end list is inside (rw (← long, ← size) added) (rw (← long, ← size, touched) fewer) many wrote
+  -- what a sequence shows afterwards, whose `had` elements were made `have`, lent as a slice and written
+  pub grown-shown : (none : T) (old between slice new : List T) (had have start len more : ℕ) (made list : List Bool) → value none ≡ 0 → had ≡ length old → had ≡ div_ceil (start + len) b
+      → between ≡ take (div_ceil (start + len + more) b) old ++ replicate (div_ceil (start + len + more) b - had) none → have ≡ length between → slice ≡ between
+      → Writes b at (map value slice) (map value new) (record { start = start + len; len = more }) made → made ≡ list
+      → ((shown b at value (take have (new ++ drop (length new) between)) start (len + more)).bits ≡ (shown b at value old start len).bits ++ list)
+      × KeepsAround b (shown b at value old start len) (shown b at value (take have (new ++ drop (length new) between)) start (len + more))
+  grown-shown none old between slice new had have start len more made list is size touched added many same wrote equal =
+      let long : more ≡ length list = sym wrote.long ∙ ap length equal in
+      let count = same_length value new slice wrote.elements ∙ ap length same in
+      let left = grown none old between new (start + len) list is (sym size ∙ touched) (rw (← long, ← size) added) count (wrote.bits ∙ rw (same, equal) refl) in
+      let inside = touched-inside b some (start + len) (length old) (sym size ∙ touched) in
+      let total : len + more ≡ len + length list = ap (λ (k : ℕ). len + k) long in
+      rw (refilled new between have (count ∙ sym many)) (added-bits old new start len list inside left (len + more) total, added-around old new start len list inside left (len + more) total)
 
   -- the last elements were taken, and zeros written from a place on in those that were left
   pub cut : (old between new : List T) (last end : ℕ) → between ≡ take (div_ceil end b) old → end ≤ b * length old → length new ≡ length between

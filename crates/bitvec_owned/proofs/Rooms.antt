@@ -1,7 +1,7 @@
 -- How many bits fit the elements for which there is memory.
-use Rattle.std.specs.Prelude.{◌≡◌, ℕ, ◌+◌, ◌*◌, ◌/◌, ◌%◌, ◌<◌, ◌≤◌, min, OnErr, Result, Ok, Err}
+use Rattle.std.specs.Prelude.{◌≡◌, ℕ, ◌+◌, ◌-◌, ◌*◌, ◌/◌, ◌%◌, ◌<◌, ◌≤◌, if◌then◌else◌, is_ok, min, OnErr, OnOk, Result, Ok, Err}
 use Rattle.std.specs.Int.{div_ceil}
-use Rattle.std.proofs.Common.{ap, arith}
+use Rattle.std.proofs.Common.{◌∙◌, ap, arith}
 use Rattle.std.proofs.Math.Nat.{div-mul-le_self, le-div_iff_mul-le, lt_of_mul-lt-mul_right, mul-le-mul_left}
 use Rattle.std.proofs.lemmas.Nat.{div-add-mod', mod_below}
 use Rattle.std.proofs.lemmas.Grind.{div_ceil_times}
@@ -38,11 +38,19 @@ module _ (b : ℕ) (some : 0 < b) where
   pub touched-inside : (end n : ℕ) → n ≡ div_ceil end b → end ≤ b * n
   touched-inside end n is = let rounded = div_ceil_times end b some in rw is (omega arith)
 
+  -- of n elements those are left that the first bits touch: they hold these, and fit
+  pub cut-fits : (end n left k : ℕ) → end ≤ b * n → b * n ≤ max_bits → k ≡ div_ceil end b → left + (n - k) ≡ n → (left ≡ div_ceil end b) × (end ≤ b * left) × (b * left ≤ max_bits)
+  cut-fits end n left k inside fits is cut =
+      let few = fewest end n inside in
+      let count : left ≡ div_ceil end b = omega arith in
+      let product = mul-le-mul_left {m = left} {n = n} b (omega arith) in
+      (count, touched-inside end left count, omega arith)
+
   -- where an element ends with the bits, one bit more touches one element more
   pub next-touched : (end : ℕ) → end % b ≡ 0 → div_ceil (end + 1) b ≡ div_ceil end b + 1
   next-touched end whole =
       let now = div_ceil_times end b some in
-      let then = div_ceil_times (end + 1) b some in
+      let later = div_ceil_times (end + 1) b some in
       let sum = div-add-mod' end b in
       let none : div_ceil end b ≡ end / b = rw whole (omega arith) in
       let low : end / b < div_ceil (end + 1) b = lt_of_mul-lt-mul_right b (omega arith) in
@@ -53,7 +61,7 @@ module _ (b : ℕ) (some : 0 < b) where
   pub same-touched : (end : ℕ) → (end % b ≡ 0 → ⊥) → div_ceil (end + 1) b ≡ div_ceil end b
   same-touched end inside =
       let now = div_ceil_times end b some in
-      let then = div_ceil_times (end + 1) b some in
+      let later = div_ceil_times (end + 1) b some in
       let sum = div-add-mod' end b in
       let part : 0 < end % b = omega (arith, inside) in
       let up : div_ceil end b ≡ end / b + 1 = omega arith in
@@ -87,3 +95,9 @@ module _ (b : ℕ) (some : 0 < b) where
       let rounded = div_ceil_times end b some in
       let product = mul-le-mul_left {m = div_ceil end b} {n = min n (max_bits / b)} b few in
       omega arith
+
+  -- n elements were asked for, as many as the bits up to `end` touch
+  pub granted : {V E : Type 0} (r : Result V E) (end n len was before after : ℕ) → n ≡ div_ceil end b → n ≤ max_bits / b → len ≡ (if is_ok r then n else was) → OnErr r (before < n) → before ≤ after
+      → OnOk r (b * len ≤ max_bits) × OnOk r (end ≤ b * len) × OnErr r (usable_bits b before < end) × (usable_bits b before ≤ usable_bits b after)
+  granted (Ok v) end n len was before after is few count full more = (rw count (few-fit n few), touched-inside end len (count ∙ is), tt, usable-more before after more)
+  granted (Err e) end n len was before after is few count full more = (tt, tt, past-usable end before (omega (arith, is, full)), usable-more before after more)

@@ -4,9 +4,10 @@ ghost use Rattle.bitvec_owned.specs.Copies.{KeepsAround};
 ghost use Rattle.bitvec_slice.specs.Views.{seen};
 ghost use Rattle.bitvec_owned.specs.Owned.{bit_capacity, owned};
 
-use super::elements::{put_bits, put_block, put_same};
+use super::elements::{make_room, put_same};
 use crate::BitVec;
-use bitvec_base::BitOrder;
+use bitvec_base::{BitOrder, Window};
+use bitvec_elements::{copy_from_block_in, copy_from_in};
 use bitvec_engine::SliceOrder;
 use bitvec_slice::BitSlice;
 use bitvec_store::BitStore;
@@ -47,9 +48,15 @@ impl<T: BitStore, O: BitOrder, A: Allocator> BitVec<T, O, A> {
         ensures full { OnErr result (bit_capacity self.old < (owned self.old).window.len + (seen bits.entry).window.len) }
         ensures capacity { bit_capacity self.old ≤ bit_capacity self.new }
     {
-        let more = bits.len();
-        put_bits::<T, O, U, P, A>(&mut self.elements, self.head + self.len, bits)?;
-        self.len += more;
+        let from = bits.window();
+        let end = self.head + self.len;
+        make_room(&mut self.elements, end + from.len, false)?;
+        let to = Window {
+            start: end,
+            len: from.len,
+        };
+        copy_from_in::<T, O, U, P>(self.elements.as_mut_slice(), to, bits.elements(), from);
+        self.len += from.len;
         Ok(())
     }
 }
@@ -64,9 +71,15 @@ impl<T: BitStore, O: SliceOrder, A: Allocator> BitVec<T, O, A> {
         ensures full { OnErr result (bit_capacity self.old < (owned self.old).window.len + (seen bits.entry).window.len) }
         ensures capacity { bit_capacity self.old ≤ bit_capacity self.new }
     {
-        let more = bits.len();
-        put_block::<T, O, A>(&mut self.elements, self.head + self.len, bits)?;
-        self.len += more;
+        let from = bits.window();
+        let end = self.head + self.len;
+        make_room(&mut self.elements, end + from.len, false)?;
+        let to = Window {
+            start: end,
+            len: from.len,
+        };
+        copy_from_block_in::<T, O>(self.elements.as_mut_slice(), to, bits.elements(), from);
+        self.len += from.len;
         Ok(())
     }
 

@@ -5,31 +5,26 @@ ghost use Rattle.bitvec_base.specs.Memory.{memory_bits};
 ghost use Rattle.bitvec_base.specs.Window.{max_bits, write_at};
 ghost use Rattle.bitvec_owned.specs.Fronts.{LeavesFront};
 ghost use Rattle.bitvec_owned.specs.Owned.{rest_bits, usable_bits};
-ghost use Rattle.bitvec_slice.specs.Views.{seen};
 
-use bitvec_base::{BitOrder, MAX_BITS, Part, Window};
+use bitvec_base::{BitOrder, MAX_BITS, Part};
 use bitvec_cells::{Exclusive, fill_part};
-use bitvec_domain::set_in;
-use bitvec_elements::{copy_from_block_in, copy_from_in};
-use bitvec_engine::SliceOrder;
-use bitvec_slice::BitSlice;
 use bitvec_store::BitStore;
 use std::alloc::{AllocError, Allocator};
 
-/// Adds the elements that the bits up to `end` touch and that aren't there, with each bit `bit`. An error where memory is
-/// refused or they would have more than `MAX_BITS` bits; they are as before then.
+/// Makes the elements just those that the bits up to `end` touch. Those that are added have each bit `bit`. An error where
+/// memory is refused or they would have more than `MAX_BITS` bits; they are as before then.
 #[inline(always)]
-fn make_room<T: BitStore, A: Allocator>(
+pub(crate) fn make_room<T: BitStore, A: Allocator>(
     elements: &mut Vec<T, A>,
     end: usize,
     bit: bool,
 ) -> Result<(), AllocError>
-    requires { vec_len elements.old ≤ div_ceil end T.BITS }
-    ensures items { elements.new.items ≡ (if is_ok result then elements.old.items ++ replicate (div_ceil end T.BITS - vec_len elements.old) (if bit then T.ALL else T.ZERO) else elements.old.items) }
+    ensures items { elements.new.items ≡ (if is_ok result then take (div_ceil end T.BITS) elements.old.items ++ replicate (div_ceil end T.BITS - vec_len elements.old) (if bit then T.ALL else T.ZERO) else elements.old.items) }
     ensures len { vec_len elements.new ≡ (if is_ok result then div_ceil end T.BITS else vec_len elements.old) }
     ensures fits { OnOk result (T.BITS * vec_len elements.new ≤ max_bits) }
+    ensures inside { OnOk result (end ≤ T.BITS * vec_len elements.new) }
     ensures full { OnErr result (usable_bits T.BITS (vec_capacity elements.old) < end) }
-    ensures capacity { vec_capacity elements.old ≤ vec_capacity elements.new }
+    ensures capacity { usable_bits T.BITS (vec_capacity elements.old) ≤ usable_bits T.BITS (vec_capacity elements.new) }
 {
     let width = T::BITS as usize;
     let count = end.div_ceil(width);
@@ -45,17 +40,18 @@ fn make_room<T: BitStore, A: Allocator>(
 }
 
 /// [`make_room`] for one bit behind the first `end`, with elements that are 0.
-fn make_room_for_bit<T: BitStore, A: Allocator>(
+pub(crate) fn make_room_for_bit<T: BitStore, A: Allocator>(
     elements: &mut Vec<T, A>,
     end: usize,
 ) -> Result<(), AllocError>
     requires touched { vec_len elements.old ≡ div_ceil end T.BITS }
     requires bounded { T.BITS * vec_len elements.old ≤ max_bits }
-    ensures items { elements.new.items ≡ (if is_ok result then elements.old.items ++ replicate (div_ceil (end + 1) T.BITS - vec_len elements.old) T.ZERO else elements.old.items) }
+    ensures items { elements.new.items ≡ (if is_ok result then take (div_ceil (end + 1) T.BITS) elements.old.items ++ replicate (div_ceil (end + 1) T.BITS - vec_len elements.old) T.ZERO else elements.old.items) }
     ensures len { vec_len elements.new ≡ (if is_ok result then div_ceil (end + 1) T.BITS else vec_len elements.old) }
     ensures fits { OnOk result (T.BITS * vec_len elements.new ≤ max_bits) }
+    ensures inside { OnOk result (end < T.BITS * vec_len elements.new) }
     ensures full { OnErr result (usable_bits T.BITS (vec_capacity elements.old) ≤ end) }
-    ensures capacity { vec_capacity elements.old ≤ vec_capacity elements.new }
+    ensures capacity { usable_bits T.BITS (vec_capacity elements.old) ≤ usable_bits T.BITS (vec_capacity elements.new) }
 {
     let width = T::BITS as usize;
     if end % width != 0 {
@@ -68,77 +64,9 @@ fn make_room_for_bit<T: BitStore, A: Allocator>(
     Ok(())
 }
 
-/// Adds a bit behind the first `end`. An error where memory is refused; the elements are as before then.
-pub(crate) fn put_bit<T: BitStore, O: BitOrder, A: Allocator>(
-    elements: &mut Vec<T, A>,
-    end: usize,
-    bit: bool,
-) -> Result<(), AllocError>
-    requires touched { vec_len elements.old ≡ div_ceil end T.BITS }
-    requires bounded { T.BITS * vec_len elements.old ≤ max_bits }
-    ensures left { OnOk result (LeavesFront T.BITS O.at T.value elements.old.items elements.new.items end (take end (memory_bits T.BITS O.at (map T.value elements.old.items)) ++ bit ∷ [])) }
-    ensures kept { OnErr result ((elements.new.items ≡ elements.old.items) × (usable_bits T.BITS (vec_capacity elements.old) ≤ end)) }
-    ensures len { vec_len elements.new ≡ (if is_ok result then div_ceil (end + 1) T.BITS else vec_len elements.old) }
-    ensures fits { T.BITS * vec_len elements.new ≤ max_bits }
-    ensures capacity { vec_capacity elements.old ≤ vec_capacity elements.new }
-{
-    make_room_for_bit(elements, end)?;
-    let window = Window { start: end, len: 1 };
-    set_in::<T, O>(elements.as_mut_slice(), window, 0, bit);
-    Ok(())
-}
-
-/// Adds the bits of a view behind the first `end`. An error where memory is refused; the elements are as before then.
-pub(crate) fn put_bits<T: BitStore, O: BitOrder, U: BitStore, P: BitOrder, A: Allocator>(
-    elements: &mut Vec<T, A>,
-    end: usize,
-    bits: BitSlice<'_, U, P>,
-) -> Result<(), AllocError>
-    requires touched { vec_len elements.old ≡ div_ceil end T.BITS }
-    requires bounded { T.BITS * vec_len elements.old ≤ max_bits }
-    ensures left { OnOk result (LeavesFront T.BITS O.at T.value elements.old.items elements.new.items end (take end (memory_bits T.BITS O.at (map T.value elements.old.items)) ++ (seen bits.entry).bits)) }
-    ensures kept { OnErr result ((elements.new.items ≡ elements.old.items) × (usable_bits T.BITS (vec_capacity elements.old) < end + (seen bits.entry).window.len)) }
-    ensures len { vec_len elements.new ≡ (if is_ok result then div_ceil (end + (seen bits.entry).window.len) T.BITS else vec_len elements.old) }
-    ensures fits { T.BITS * vec_len elements.new ≤ max_bits }
-    ensures capacity { vec_capacity elements.old ≤ vec_capacity elements.new }
-{
-    let from = bits.window();
-    make_room(elements, end + from.len, false)?;
-    let to = Window {
-        start: end,
-        len: from.len,
-    };
-    copy_from_in::<T, O, U, P>(elements.as_mut_slice(), to, bits.elements(), from);
-    Ok(())
-}
-
-/// [`put_bits`] of a view of the elements' own type and order.
-pub(crate) fn put_block<T: BitStore, O: SliceOrder, A: Allocator>(
-    elements: &mut Vec<T, A>,
-    end: usize,
-    bits: BitSlice<'_, T, O>,
-) -> Result<(), AllocError>
-    requires touched { vec_len elements.old ≡ div_ceil end T.BITS }
-    requires bounded { T.BITS * vec_len elements.old ≤ max_bits }
-    ensures left { OnOk result (LeavesFront T.BITS O.at T.value elements.old.items elements.new.items end (take end (memory_bits T.BITS O.at (map T.value elements.old.items)) ++ (seen bits.entry).bits)) }
-    ensures kept { OnErr result ((elements.new.items ≡ elements.old.items) × (usable_bits T.BITS (vec_capacity elements.old) < end + (seen bits.entry).window.len)) }
-    ensures len { vec_len elements.new ≡ (if is_ok result then div_ceil (end + (seen bits.entry).window.len) T.BITS else vec_len elements.old) }
-    ensures fits { T.BITS * vec_len elements.new ≤ max_bits }
-    ensures capacity { vec_capacity elements.old ≤ vec_capacity elements.new }
-{
-    let from = bits.window();
-    make_room(elements, end + from.len, false)?;
-    let to = Window {
-        start: end,
-        len: from.len,
-    };
-    copy_from_block_in::<T, O>(elements.as_mut_slice(), to, bits.elements(), from);
-    Ok(())
-}
-
 /// Makes the bits of an element from a place in it on `bit`: none where an element begins there. It stores at most one
 /// element. Condition: the place lies in the memory or at its end, which has at most `MAX_BITS` bits.
-fn fill_rest<T: BitStore, O: BitOrder>(elements: &mut [T], place: usize, bit: bool)
+pub(crate) fn fill_rest<T: BitStore, O: BitOrder>(elements: &mut [T], place: usize, bit: bool)
     requires inside { place ≤ T.BITS * length elements.old }
     requires bounded { T.BITS * length elements.old ≤ max_bits }
     ensures bits { memory_bits T.BITS O.at (map T.value elements.new)
@@ -188,7 +116,7 @@ pub(crate) fn put_same<T: BitStore, O: BitOrder, A: Allocator>(
     ensures kept { OnErr result ((elements.new.items ≡ elements.old.items) × (usable_bits T.BITS (vec_capacity elements.old) < end + count)) }
     ensures len { vec_len elements.new ≡ (if is_ok result then div_ceil (end + count) T.BITS else vec_len elements.old) }
     ensures fits { T.BITS * vec_len elements.new ≤ max_bits }
-    ensures capacity { vec_capacity elements.old ≤ vec_capacity elements.new }
+    ensures capacity { usable_bits T.BITS (vec_capacity elements.old) ≤ usable_bits T.BITS (vec_capacity elements.new) }
 {
     if count > MAX_BITS {
         return Err(AllocError);
@@ -230,18 +158,4 @@ pub(crate) fn take_bit<T: BitStore, O: BitOrder, A: Allocator>(
     elements[last / width] = element.and(mask.not());
     drop_untouched(elements, last);
     element.and(mask).to_u128() != 0
-}
-
-/// Drops all bits from the place `end` on. Condition: the elements have as many.
-pub(crate) fn cut_off<T: BitStore, O: BitOrder, A: Allocator>(elements: &mut Vec<T, A>, end: usize)
-    requires inside { end ≤ T.BITS * vec_len elements.old }
-    requires bounded { T.BITS * vec_len elements.old ≤ max_bits }
-    ensures left { (last : ℕ) → LeavesFront T.BITS O.at T.value elements.old.items elements.new.items last (take end (memory_bits T.BITS O.at (map T.value elements.old.items))) }
-    ensures len { vec_len elements.new ≡ div_ceil end T.BITS }
-    ensures fits { T.BITS * vec_len elements.new ≤ max_bits }
-    ensures capacity { vec_capacity elements.new ≡ vec_capacity elements.old }
-{
-    let width = T::BITS as usize;
-    elements.truncate(end.div_ceil(width));
-    fill_rest::<T, O>(elements.as_mut_slice(), end, false);
 }

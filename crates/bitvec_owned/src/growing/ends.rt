@@ -4,9 +4,10 @@ ghost use Rattle.std.specs.Option.{option_to_list};
 ghost use Rattle.bitvec_owned.specs.Copies.{KeepsAround};
 ghost use Rattle.bitvec_owned.specs.Owned.{bit_capacity, owned};
 
-use super::elements::{cut_off, put_bit, take_bit};
+use super::elements::{fill_rest, make_room_for_bit, take_bit};
 use crate::BitVec;
-use bitvec_base::BitOrder;
+use bitvec_base::{BitOrder, Window};
+use bitvec_domain::set_in;
 use bitvec_store::BitStore;
 use std::alloc::{AllocError, Allocator};
 
@@ -25,9 +26,11 @@ impl<T: BitStore, O: BitOrder, A: Allocator> BitVec<T, O, A> {
         ensures full { OnErr result (bit_capacity self.old ≤ (owned self.old).window.len) }
         ensures capacity { bit_capacity self.old ≤ bit_capacity self.new }
     {
-        let len = self.len;
-        put_bit::<T, O, A>(&mut self.elements, self.head + len, bit)?;
-        self.len = len + 1;
+        let end = self.head + self.len;
+        make_room_for_bit(&mut self.elements, end)?;
+        let window = Window { start: end, len: 1 };
+        set_in::<T, O>(self.elements.as_mut_slice(), window, 0, bit);
+        self.len += 1;
         Ok(())
     }
 
@@ -55,7 +58,9 @@ impl<T: BitStore, O: BitOrder, A: Allocator> BitVec<T, O, A> {
         ensures capacity { bit_capacity self.new ≡ bit_capacity self.old }
     {
         if len < self.len {
-            cut_off::<T, O, A>(&mut self.elements, self.head + len);
+            let end = self.head + len;
+            self.elements.truncate(end.div_ceil(T::BITS as usize));
+            fill_rest::<T, O>(self.elements.as_mut_slice(), end, false);
             self.len = len;
         }
     }

@@ -1,18 +1,24 @@
-use Rattle.std.proofs.Common.{ℕ, ◌+◌, ap}
+use Rattle.std.proofs.Common.{◌≡◌, ◌+◌, arith, refl, rules}
 use Rattle.bitvec_store.specs.WidthLaws.{width_some}
 use Rattle.bitvec_slice.specs.Views.{seen}
-use Rattle.bitvec_owned.proofs.Fronts.{added-around, added-bits}
-use Rattle.bitvec_owned.specs.WritesLaws.{inside}
+use Rattle.bitvec_owned.proofs.Fronts.{grown-shown, has-window}
 use Rattle.bitvec_owned.proofs.bit_vec.BitVec.extend_from_bitslice.Goals as goal
 
-pub returns-clause-bits : goal.returns-clause-bits
-returns-clause-bits g c =
-    let some = width_some _ g.met.T.BitStore.width_law in
-    let old = c.args.self.now in
-    added-bits _ _ _ some old.elements.items c.put_bits.new.elements.items old.head old.len (seen c.args.bits).bits (inside some old) c.in_ok-put_bits.ensures.left (old.len + c.len-more.result) (ap (λ (n : ℕ). old.len + n) c.len-more.ensures.value)
+pub copy_from_in-requires-clause-window : goal.copy_from_in-requires-clause-window
+copy_from_in-requires-clause-window g c =
+    let room = c.in_ok-make_room.ensures in
+    has-window _ g.O.BitOrder.at g.T.BitStore.value (width_some _ g.met.T.BitStore.width_law) _ _ _ _ c.as_mut_slice.ensures.len room.fits room.inside
 
-pub returns-clause-around : goal.returns-clause-around
-returns-clause-around g c =
-    let some = width_some _ g.met.T.BitStore.width_law in
+pub invariant_of-self-2 : goal.invariant_of-self-2
+invariant_of-self-2 g c =
     let old = c.args.self.now in
-    added-around _ _ _ some old.elements.items c.put_bits.new.elements.items old.head old.len (seen c.args.bits).bits (inside some old) c.in_ok-put_bits.ensures.left (old.len + c.len-more.result) (ap (λ (n : ℕ). old.len + n) c.len-more.ensures.value)
+    let place : old.head + (old.len + c.window-from.result.len) ≡ old.head + old.len + c.window-from.result.len = omega arith in
+    record { begins = old.begins; touched = rw place c.in_ok-make_room.ensures.len; bounded = c.in_ok-make_room.ensures.fits }
+
+pub returns : goal.returns
+returns g c =
+    let old = c.args.self.now in
+    let room = c.make_room.new.elements in
+    let shows = grown-shown _ _ _ (width_some _ g.met.T.BitStore.width_law) _ old.elements.items room.items _ _ _ room.len old.head old.len _ _ (seen c.args.bits).bits g.met.T.BitStore.zero_law
+    old.elements.ok.0 old.touched c.in_ok-make_room.ensures.items room.ok.0 c.as_mut_slice.ensures.value c.copy_from_in.ensures.writes (rw (c.elements.ensures, c.window-from.ensures.value) refl) in
+    record { bits = shows.0; around = shows.1; len = search rules; same = tt; full = tt; capacity = omega (arith, c.make_room.ensures.capacity) }

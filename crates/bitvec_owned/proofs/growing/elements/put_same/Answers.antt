@@ -1,8 +1,15 @@
-use Rattle.std.proofs.Common.{◌≡◌, ◌∙◌, length}
+use Rattle.std.proofs.Common.{◌≡◌, ◌∙◌, arith, length}
 use Rattle.bitvec_store.specs.WidthLaws.{width_some}
 use Rattle.bitvec_owned.proofs.Fillings.{filled, filling}
 use Rattle.bitvec_copying.specs.ElementsLaws.{refilled}
 use Rattle.bitvec_owned.proofs.growing.elements.put_same.Goals as goal
+
+pub fill_up_to-requires : goal.fill_up_to-requires
+fill_up_to-requires g c =
+    let room = c.in_ok-make_room.ensures in
+    let fits = room.fits in
+    let end = room.inside in
+    rw c.as_mut_slice.ensures.len (record { inside = omega arith; end_inside = end; bounded = fits })
 
 pub returns-clause-left : goal.returns-clause-left
 returns-clause-left g c =

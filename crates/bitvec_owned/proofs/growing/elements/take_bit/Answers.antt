@@ -1,5 +1,4 @@
-use Rattle.std.proofs.Common.{◌≡◌, ◌*◌, ◌/◌, ◌%◌, ◌<◌, ◌^◌, ◌∙◌, arith, false, length, map, refl, slice_index, slice_set, sym}
-use Rattle.std.proofs.lemmas.Grind.{common_steps}
+use Rattle.std.proofs.Common.{◌≡◌, ◌+◌, ◌*◌, ◌/◌, ◌%◌, ◌<◌, ◌^◌, ◌∙◌, arith, false, length, map, refl, slice_index, slice_set, sym}
 use Rattle.std.proofs.lemmas.List.{get_or-map, length-map, length-set, map-set}
 use Rattle.std.proofs.lemmas.Nat.{div_below}
 use Rattle.bitvec_base.specs.Memory.{memory_bits, place_bit}
@@ -9,6 +8,7 @@ use Rattle.bitvec_cells.proofs.PartLemmas.{place-put}
 use Rattle.bitvec_cells.specs.Element.{put_mask}
 use Rattle.bitvec_store.specs.WidthLaws.{width_some}
 use Rattle.bitvec_owned.proofs.Fronts.{taken}
+use Rattle.bitvec_owned.proofs.Rooms.{touched-inside}
 use Rattle.bitvec_owned.proofs.growing.elements.take_bit.Goals as goal
 
 pub returns-clause-value : goal.returns-clause-value
@@ -18,7 +18,8 @@ returns-clause-value g c =
     let b = g.T.BitStore.BITS in
     let old = c.args.elements.now.items in
     let long = length-map old g.T.BitStore.value in
-    let below : c.args.last < b * length old = grind (arith, common_steps, some) in
+    let room = touched-inside b some (c.args.last + 1) (length old) (sym c.args.elements.now.ok.0 ∙ c.requires.touched) in
+    let below : c.args.last < b * length old = omega arith in
     let inside = div_below c.args.last b (length old) some (omega arith) in
     let element = get_or-map g.T.BitStore.value old (c.args.last / b) c.index-element.result.now 0 inside in
     rw (c.to_u128.ensures.number, c.and-2.ensures, c.select-mask.ensures, c.BITS-width.ensures)
@@ -34,7 +35,8 @@ returns-clause-left g c =
     let old = c.args.elements.now.items in
     let xs = map g.T.BitStore.value old in
     let long = length-map old g.T.BitStore.value in
-    let below : c.args.last < b * length old = grind (arith, common_steps, some) in
+    let room = touched-inside b some (c.args.last + 1) (length old) (sym c.args.elements.now.ok.0 ∙ c.requires.touched) in
+    let below : c.args.last < b * length old = omega arith in
     let inside = div_below c.args.last b (length old) some (omega arith) in
     let element = get_or-map g.T.BitStore.value old (c.args.last / b) c.index-element.result.now 0 inside in
     let cleared : g.T.BitStore.value c.and.result ≡ put_mask b (slice_index xs (c.args.last / b)) (2 ^ at b (c.args.last % b)) false =
