@@ -5,8 +5,6 @@
 #[cfg(test)]
 mod accessors;
 #[cfg(test)]
-mod block_costs;
-#[cfg(test)]
 mod elements;
 #[cfg(test)]
 mod orders;
