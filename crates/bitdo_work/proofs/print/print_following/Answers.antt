@@ -6,6 +6,9 @@ use Rattle.std.proofs.lemmas.List.Elements.{All-map}
 use Rattle.std.proofs.lemmas.List.Folds.{flat_map-map}
 use Rattle.bitdo_work.proofs.print.print_following.Goals as goal
 
+pub loop-element-preserved : goal.loop-element-preserved
+loop-element-preserved g c = grind (arith, common_steps)
+
 pub returns-clause-text : goal.returns-clause-text
 returns-clause-text g c = rw flat_map-map (grind (arith, common_steps))
 
