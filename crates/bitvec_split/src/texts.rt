@@ -21,9 +21,7 @@ pub fn write_limited<T: BitStore, O: BitOrder, V: fmt::Write>(
 ) -> fmt::Result
     ensures { DisplaysOnOk V.write_str_gives f.old result (debug_variant name.now (Some (bits_text (seen left.entry).bits ++ (comma ++ decimal count)))) f.new }
 {
-    write!(f, "{name}({left}, ")?;
-    fmt::Display::fmt(&count, f)?;
-    f.write_str(")")
+    write!(f, "{name}({left}, {count})")
 }
 
 impl<'a, T: BitStore, O: BitOrder, P, W> Splits<'a, T, O, P, W> {
