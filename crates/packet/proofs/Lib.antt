@@ -1,5 +1,4 @@
 pub mod AssignmentLaws
-pub mod ByteLaws
 pub mod ChangeLaws
 pub mod DigitLaws
 pub mod EndLaws

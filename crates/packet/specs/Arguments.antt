@@ -1,5 +1,5 @@
 -- The words after the program's name.
-use Rattle.std.specs.Prelude.{◌≡◌, ℕ, ◌+◌, ◌*◌, ◌^◌, ◌<◌, true, ◌&&◌, ◌==◌, nat_eq, nat_lt, if◌then◌else◌, List, [], length, drop, slice_index_or, Option, Some, None, codes}
+use Rattle.std.specs.Prelude.{◌≡◌, ℕ, ◌+◌, ◌*◌, ◌^◌, ◌<◌, ◌&&◌, ◌==◌, nat_eq, nat_lt, if◌then◌else◌, List, [], length, drop, slice_index_or, Option, Some, None, codes}
 use Rattle.std.specs.Char.{is_digit}
 use Rattle.std.specs.List.{after_first, before_first, list_all, position_or_len, starts_with}
 use Rattle.std.specs.Option.{option_map}
@@ -22,10 +22,10 @@ pub record Named : Type 0 where
   pub name : List ℕ
   pub value : ℕ
 
--- the assignment of a word `FIELD=VALUE`, cut at the first equals sign
-abbrev pub assignment_of : List ℕ → Option Named
-assignment_of word =
-    if nat_lt (position_or_len (λ byte. byte == 61) word) (length word)
+-- the assignment of the words `--set` and `FIELD=VALUE`, cut at the first equals sign
+abbrev pub assignment_of : List ℕ → List ℕ → Option Named
+assignment_of flag word =
+    if bytes_eq flag (codes "--set") && nat_lt (position_or_len (λ byte. byte == 61) word) (length word)
     then option_map (λ value. record { name = before_first (λ byte. byte == 61) word; value = value }) (value_of (after_first (λ byte. byte == 61) word))
     else None
 
@@ -36,5 +36,5 @@ named assignment = record { name = assignment.name.now; value = assignment.value
 -- these are the assignments of the words, each behind a word `--set`
 pub record AreAssignments (words : List (List ℕ)) (list : List Named) : Type 0 where
   pub count : length words ≡ 2 * length list
-  pub flags : (k : ℕ) → k < length list → bytes_eq (slice_index_or words (2 * k) []) (codes "--set") ≡ true
-  pub each : (k : ℕ) → k < length list → assignment_of (slice_index_or words (2 * k + 1) []) ≡ Some (slice_index_or list k (record { name = []; value = 0 }))
+  pub each : (k : ℕ) → k < length list
+      → assignment_of (slice_index_or words (2 * k) []) (slice_index_or words (2 * k + 1) []) ≡ Some (slice_index_or list k (record { name = []; value = 0 }))

@@ -1,5 +1,5 @@
 -- Packets as hexadecimal digits.
-use Rattle.std.specs.Prelude.{◌≡◌, ℕ, ◌+◌, ◌-◌, ◌*◌, ◌/◌, ◌%◌, ◌<◌, ◌≤◌, nat_lt, if◌then◌else◌, Bool, true, false, not, ◌||◌, List, [], ◌∷◌, ◌++◌, filter, length, map}
+use Rattle.std.specs.Prelude.{All, ◌≡◌, ℕ, ◌+◌, ◌-◌, ◌*◌, ◌/◌, ◌%◌, ◌<◌, ◌≤◌, nat_lt, if◌then◌else◌, Bool, true, false, not, ◌||◌, List, [], ◌∷◌, ◌++◌, filter, length, map}
 use Rattle.std.specs.Char.{digit_value, is_ascii_whitespace}
 use Rattle.std.specs.List.{flat_map, list_all}
 use Rattle.packet.specs.declared.fault.Fault.{Fault}
@@ -16,6 +16,12 @@ has_digits text = list_all (λ byte. is_ascii_whitespace byte || nat_lt (digit_v
 -- the values of the digits of a text, without its white space
 abbrev pub digits_of : List ℕ → List ℕ
 digits_of text = map digit_value (filter (λ byte. not (is_ascii_whitespace byte)) text)
+
+-- These are a text's digits, and it has nothing but digits and white space.
+pub record AreDigits (text digits : List ℕ) : Type 0 where
+  pub all : has_digits text ≡ true
+  pub digits_are : digits ≡ digits_of text
+  pub below : All (λ digit. digit < 16) digits
 
 -- the bytes of digits, the higher digit of each first
 abbrev pub bytes_of : List ℕ → List ℕ

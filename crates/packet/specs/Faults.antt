@@ -8,16 +8,27 @@ abbrev pub status_of : Fault → ℕ
 status_of Memory = 3
 status_of _ = 2
 
+-- It is what is wrong, without the number of a change.
+abbrev pub reason_of : Fault → List ℕ
+reason_of Arguments = codes "bad arguments"
+reason_of Input = codes "bad input"
+reason_of Digit = codes "bad digit"
+reason_of Odd = codes "odd number of digits"
+reason_of Long = codes "packet too long"
+reason_of Truncated = codes "packet truncated"
+reason_of Version = codes "version is not 4"
+reason_of HeaderLength = codes "header length below 5"
+reason_of (Unknown number) = codes "no such field"
+reason_of (Fixed number) = codes "field can't be set"
+reason_of (Range number) = codes "value too large"
+reason_of Memory = codes "out of memory"
+
+-- The line of a change's fault tells the number first.
+abbrev pub change_text : ℕ → List ℕ → List ℕ
+change_text number reason = codes "change " ++ decimal number ++ codes ": " ++ reason
+
 abbrev pub fault_text : Fault → List ℕ
-fault_text Arguments = codes "bad arguments"
-fault_text Input = codes "bad input"
-fault_text Digit = codes "bad digit"
-fault_text Odd = codes "odd number of digits"
-fault_text Long = codes "packet too long"
-fault_text Truncated = codes "packet truncated"
-fault_text Version = codes "version is not 4"
-fault_text HeaderLength = codes "header length below 5"
-fault_text (Unknown number) = codes "change " ++ decimal number ++ codes ": no such field"
-fault_text (Fixed number) = codes "change " ++ decimal number ++ codes ": field can't be set"
-fault_text (Range number) = codes "change " ++ decimal number ++ codes ": value too large"
-fault_text Memory = codes "out of memory"
+fault_text (Unknown number) = change_text number (reason_of (Unknown number))
+fault_text (Fixed number) = change_text number (reason_of (Fixed number))
+fault_text (Range number) = change_text number (reason_of (Range number))
+fault_text fault = reason_of fault

@@ -39,10 +39,13 @@ fn parse_value(word: &str) -> Option<u128>
     }
 }
 
-/// The assignment of a word `FIELD=VALUE`.
-fn parse_assignment(word: &str) -> Option<Assignment<'_>>
-    ensures { option_map named result ≡ assignment_of word.now }
+/// The assignment of the words `--set` and `FIELD=VALUE`.
+fn parse_assignment<'a>(flag: &str, word: &'a str) -> Option<Assignment<'a>>
+    ensures { option_map named result ≡ assignment_of flag.now word.now }
 {
+    if flag != "--set" {
+        return None;
+    }
     let (name, value) = word.split_once('=')?;
     let value = parse_value(value)?;
     Some(Assignment { name, value })
@@ -62,10 +65,8 @@ pub(crate) fn parse_arguments<'a, A: Allocator>(
         return Err(Fault::Arguments);
     }
     for number in 0..words.len() / 2 {
-        if words[2 * number].as_str() != "--set" {
-            return Err(Fault::Arguments);
-        }
-        match parse_assignment(words[2 * number + 1].as_str()) {
+        let (flag, word) = (words[2 * number].as_str(), words[2 * number + 1].as_str());
+        match parse_assignment(flag, word) {
             Some(assignment) => assignments.push(assignment)?,
             None => return Err(Fault::Arguments),
         }

@@ -1,7 +1,7 @@
 //! Packets as hexadecimal digits.
-ghost use Rattle.std.specs.Prelude.{◌≡◌, ◌%◌, ◌<◌, ◌≤◌, ◌⊎◌, All, IfOk, IfErr, OnOk, length, false, true};
+ghost use Rattle.std.specs.Prelude.{◌≡◌, ◌%◌, ◌<◌, ◌≤◌, ◌⊎◌, All, IfOk, IfErr, OnOk, length, false};
 ghost use Rattle.std.specs.Io.KnownBytes.{Appends};
-ghost use Rattle.packet.specs.Digits.{DigitsFault, IsPacketText, TextFault, bytes_of, digit_code, digits_of, has_digits, most_bytes, packet_text};
+ghost use Rattle.packet.specs.Digits.{AreDigits, DigitsFault, IsPacketText, TextFault, bytes_of, digit_code, has_digits, most_bytes, packet_text};
 
 use crate::fault::Fault;
 use std::alloc::Allocator;
@@ -12,9 +12,7 @@ const MOST: usize = 0xFFFF;
 
 /// The values of the hexadecimal digits of a text, in either case. White space is stepped over.
 fn parse_digits<A: Allocator>(alloc: A, text: &[u8]) -> Result<Vec<u8, A>, Fault>
-    ensures digits { IfOk result (λ digits. digits.items ≡ digits_of text.now) }
-    ensures below { IfOk result (λ digits. All (λ digit. digit < 16) digits.items) }
-    ensures all { OnOk result (has_digits text.now ≡ true) }
+    ensures digits { IfOk result (λ digits. AreDigits text.now digits.items) }
     ensures fault { IfErr result (λ fault. (fault ≡ Fault.Memory) ⊎ ((fault ≡ Fault.Digit) × (has_digits text.now ≡ false))) }
 {
     let mut digits = Vec::new(alloc);

@@ -1,7 +1,7 @@
 //! Why the program prints a line in place of a packet.
 ghost use Rattle.std.specs.Prelude.{◌≡◌, Some};
 ghost use Rattle.packet.specs.declared.fault.Fault.TheVariants.{Memory};
-ghost use Rattle.packet.specs.Faults.{status_of, fault_text};
+ghost use Rattle.packet.specs.Faults.{fault_text, reason_of, status_of};
 
 use std::alloc::{AllocError, AllocFailed};
 use std::fmt::{self, Display, Formatter};
@@ -46,6 +46,26 @@ impl Fault {
             _ => 2,
         }
     }
+
+    /// What is wrong, without the number of the change.
+    fn reason(&self) -> &'static str
+        ensures { result.now ≡ reason_of self.now }
+    {
+        match self {
+            Fault::Arguments => "bad arguments",
+            Fault::Input => "bad input",
+            Fault::Digit => "bad digit",
+            Fault::Odd => "odd number of digits",
+            Fault::Long => "packet too long",
+            Fault::Truncated => "packet truncated",
+            Fault::Version => "version is not 4",
+            Fault::HeaderLength => "header length below 5",
+            Fault::Unknown(_) => "no such field",
+            Fault::Fixed(_) => "field can't be set",
+            Fault::Range(_) => "value too large",
+            Fault::Memory => "out of memory",
+        }
+    }
 }
 
 impl Display for Fault {
@@ -53,18 +73,10 @@ impl Display for Fault {
 
     fn fmt<W: fmt::Write>(&self, formatter: &mut Formatter<W>) -> fmt::Result {
         match self {
-            Fault::Arguments => formatter.write_str("bad arguments"),
-            Fault::Input => formatter.write_str("bad input"),
-            Fault::Digit => formatter.write_str("bad digit"),
-            Fault::Odd => formatter.write_str("odd number of digits"),
-            Fault::Long => formatter.write_str("packet too long"),
-            Fault::Truncated => formatter.write_str("packet truncated"),
-            Fault::Version => formatter.write_str("version is not 4"),
-            Fault::HeaderLength => formatter.write_str("header length below 5"),
-            Fault::Unknown(number) => write!(formatter, "change {number}: no such field"),
-            Fault::Fixed(number) => write!(formatter, "change {number}: field can't be set"),
-            Fault::Range(number) => write!(formatter, "change {number}: value too large"),
-            Fault::Memory => formatter.write_str("out of memory"),
+            Fault::Unknown(number) | Fault::Fixed(number) | Fault::Range(number) => {
+                write!(formatter, "change {number}: {}", self.reason())
+            }
+            _ => formatter.write_str(self.reason()),
         }
     }
 }

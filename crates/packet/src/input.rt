@@ -6,10 +6,7 @@ use crate::fault::Fault;
 use std::alloc::Allocator;
 use std::io::{ErrorKind, Read};
 
-/// How many bytes are asked for at a time.
-const CHUNK: usize = 1024;
-
-/// All bytes of the input. A fault of the reader, whatever its kind, is not a lack of memory.
+/// All bytes of the input.
 pub(crate) fn read_bytes<R: Read, A: Allocator>(
     alloc: A,
     input: &mut R,
@@ -20,17 +17,9 @@ pub(crate) fn read_bytes<R: Read, A: Allocator>(
     ensures fault { IfErr result (λ fault. (fault ≡ Fault.Input) ⊎ (fault ≡ Fault.Memory)) }
 {
     let mut bytes = Vec::new(alloc);
-    let mut chunk = [0; CHUNK];
-    for _ in 0..u64::MAX {
-        match input.read(&mut chunk) {
-            Ok(0) => return Ok(bytes),
-            Ok(count) => bytes.extend_from_slice(&chunk[..count])?,
-            Err(error) => {
-                if error.kind() != ErrorKind::Interrupted {
-                    return Err(Fault::Input);
-                }
-            }
-        }
+    match input.read_to_end(&mut bytes) {
+        Ok(_) => Ok(bytes),
+        Err(error) if error.kind() == ErrorKind::OutOfMemory => Err(Fault::Memory),
+        Err(_) => Err(Fault::Input),
     }
-    Err(Fault::Input)
 }

@@ -12,11 +12,11 @@ loop-byte-preserved-then-is_ascii_whitespace g c =
     let text : List ℕ = c.args.text.now in
     let i : ℕ = c.loop-byte.byte-index in
     let low = c.loop-byte-test.true in
-    let space : is_ascii_whitespace (get_or text i 0) ≡ true = sym c.if-is_ascii_whitespace.ensures.value in (
-      c.loop-byte.invariant.0 ∙ sym (digits_of-space text i low space),
-      has_digits-more text i low c.loop-byte.invariant.1 (λ k. space k || nat_lt (digit_value (get_or text i 0)) 16),
-      c.loop-byte.invariant.2,
-    )
+    let space : is_ascii_whitespace (get_or text i 0) ≡ true = sym c.if-is_ascii_whitespace.ensures.value in record {
+      all = has_digits-more text i low c.loop-byte.invariant.all (λ k. space k || nat_lt (digit_value (get_or text i 0)) 16);
+      digits_are = c.loop-byte.invariant.digits_are ∙ sym (digits_of-space text i low space);
+      below = c.loop-byte.invariant.below;
+    }
 
 pub loop-byte-preserved : goal.loop-byte-preserved
 loop-byte-preserved g c =
@@ -26,11 +26,11 @@ loop-byte-preserved g c =
     let solid : is_ascii_whitespace (get_or text i 0) ≡ false = sym c.if-is_ascii_whitespace.ensures.value in
     let some = c.in-Some.ensures.value in
     let few : nat_lt (digit_value (get_or text i 0)) 16 ≡ true = grind (arith, common_steps) in
-    let items : c.push.new.self.items ≡ c.loop-byte.digits.items ++ digit_value (get_or text i 0) ∷ [] = c.in_ok-push-in-Some.ensures.items ∙ (λ k. c.loop-byte.digits.items ++ some.1 k ∷ []) in (
-      items ∙ (λ k. c.loop-byte.invariant.0 k ++ digit_value (get_or text i 0) ∷ []) ∙ sym (digits_of-digit text i low solid),
-      has_digits-more text i low c.loop-byte.invariant.1 ((λ k. solid k || nat_lt (digit_value (get_or text i 0)) 16) ∙ few),
-      subst (All (λ digit. digit < 16)) (sym items) (All-push (λ digit. digit < 16) c.loop-byte.digits.items (digit_value (get_or text i 0)) c.loop-byte.invariant.2 some.0),
-    )
+    let items : c.push.new.self.items ≡ c.loop-byte.digits.items ++ digit_value (get_or text i 0) ∷ [] = c.in_ok-push-in-Some.ensures.items ∙ (λ k. c.loop-byte.digits.items ++ some.1 k ∷ []) in record {
+      all = has_digits-more text i low c.loop-byte.invariant.all ((λ k. solid k || nat_lt (digit_value (get_or text i 0)) 16) ∙ few);
+      digits_are = items ∙ (λ k. c.loop-byte.invariant.digits_are k ++ digit_value (get_or text i 0) ∷ []) ∙ sym (digits_of-digit text i low solid);
+      below = subst (All (λ digit. digit < 16)) (sym items) (All-push (λ digit. digit < 16) c.loop-byte.digits.items (digit_value (get_or text i 0)) c.loop-byte.invariant.below some.0);
+    }
 
 pub returns-in-None-clause-fault : goal.returns-in-None-clause-fault
 returns-in-None-clause-fault g c =

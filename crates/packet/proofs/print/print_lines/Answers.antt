@@ -1,11 +1,11 @@
 use Rattle.std.proofs.Common.{◌≡◌, ℕ, ◌<◌, List, [], get_or, length, sym, ap, subst, ◌∙◌, arith}
 use Rattle.std.specs.Io.KnownBytes.{Appends}
+use Rattle.std.proofs.KnownBytes.{Appends-trans}
 use Rattle.std.proofs.lemmas.List.{get_or_default}
 use Rattle.bitrecord.specs.Layouts.{field_at}
 use Rattle.bitvec.specs.Types.{Window}
 use Rattle.packet.specs.Packets.{number_at}
 use Rattle.packet.specs.declared.field.Field.{Field}
-use Rattle.packet.proofs.ByteLaws.{Appends-more}
 use Rattle.packet.proofs.HeaderLaws.{lines-more}
 use Rattle.packet.proofs.print.print_lines.Goals as goal
 
@@ -20,4 +20,4 @@ loop-number-preserved g c =
     let read : c.read_field-value.result ≡ number_at bytes (field_at _ n) = c.read_field-value.ensures.number ∙ ap (λ (l : List Window). number_at bytes (field_at l n)) c.requires.fields in
     subst (λ (text : List ℕ). Appends (g.W.Write.contents c.args.output.now) (g.W.Write.contents c.print_field.new.output) text)
     (sym (lines-more bytes fields n c.read_field-value.result item low (get_or_default fields n none item low) read))
-    (Appends-more _ _ _ _ _ c.loop-number.invariant c.in_ok-print_field.ensures)
+    (Appends-trans _ _ _ _ _ c.loop-number.invariant c.in_ok-print_field.ensures)
