@@ -15,8 +15,6 @@ mod checked_operations;
 #[cfg(test)]
 mod checked_runs;
 #[cfg(test)]
-mod field_memory;
-#[cfg(test)]
 mod field_rows;
 #[cfg(test)]
 mod program;
