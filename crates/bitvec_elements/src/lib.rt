@@ -72,4 +72,4 @@ pub use filling::{fill_in, invert_in};
 pub use prefixes::{ends_with_in, starts_with_in};
 pub use scanning::{all_in, any_in, find_first_in, find_last_in};
 pub use swapping::{swap_with_block_in, swap_with_in};
-pub use window_words::word_from;
+pub use window_words::{is_at_once, word_from};

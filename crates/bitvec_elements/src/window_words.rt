@@ -1,6 +1,6 @@
 //! The bits of a window of a slice, up to 64 of them under any order, as the first bits of a word under an order that
 //! runs from one end of it to the other.
-ghost use Rattle.std.specs.Prelude.{◌≡◌, ◌+◌, ◌≤◌, map, slice_range};
+ghost use Rattle.std.specs.Prelude.{◌≡◌, ◌+◌, ◌≤◌, ◌↔◌, ◌⊎◌, map, min, slice_range, true};
 ghost use Rattle.bitvec_base.specs.Memory.{HasWindow, element_bits, list_in};
 ghost use Rattle.bitvec_words.specs.ShortWindow.{padded};
 ghost use Rattle.bitvec_elements.specs.BitsFrom.{HasBitsFrom};
@@ -31,6 +31,16 @@ pub fn word_from<W: WordOrder, O: BitOrder, T: BitStore>(
     let start = from.min(window.len);
     let end = (from + WORD_BITS).min(window.len);
     window_word::<W, O, T>(elements, window.range(start, end), direction)
+}
+
+/// Whether that many bits are loaded and stored as a word with no loop: at most as many as an element has and at most 64, or
+/// exactly 64. Others are counted and shifted in fewer steps by whole elements.
+#[inline(always)]
+pub fn is_at_once<T: BitStore>(len: usize) -> bool
+    ensures few { result ≡ true → len ≤ 64 }
+    ensures exact { (result ≡ true) ↔ ((len ≡ 64) ⊎ (len ≤ min 64 T.BITS)) }
+{
+    len == WORD_BITS || len <= WORD_BITS.min(T::BITS as usize)
 }
 
 /// The bits of a window as the first bits of a word; the others are 0. Conditions: the window has at

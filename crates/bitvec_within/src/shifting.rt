@@ -6,16 +6,16 @@ ghost use Rattle.bitvec_base.specs.Memory.{Edits, HasWindow};
 
 use bitvec_base::Window;
 use bitvec_cells::{Exclusive, Shared};
-use bitvec_elements::return_by_direction;
+use bitvec_elements::{is_at_once, return_by_direction};
 use bitvec_engine::{SliceOrder, shift_end, shift_start};
-use bitvec_few::{is_few, load_parts, store_parts};
+use bitvec_few::{load_parts, store_parts};
 use bitvec_store::BitStore;
 use bitvec_words::{WORD_BITS, WordOrder, moved};
 
 /// Shifts the bits of a window towards its start, and zeros in at its end. Condition: the memory has at
 /// most `MAX_BITS` bits, the window lies in it, and `by` is at most the window's length. Under an order that
-/// runs from one end of an element to the other, at most 64 bits are shifted as a word. So are the last 64 of more
-/// where `by` is below 64 and the window ends with an element.
+/// runs from one end of an element to the other, at most an element's bits, and 64, are shifted as a word. So are the last
+/// 64 of more where `by` is below 64 and the window ends with an element.
 #[tactic(auto, using(bitvec_elements::proofs::Directions::by_direction))]
 pub fn shift_start_in<T: BitStore, O: SliceOrder>(elements: &mut [T], window: Window, by: usize)
     requires window { HasWindow T.BITS (map T.value elements.old) window }
@@ -59,11 +59,11 @@ fn shift_start_run<W: WordOrder + SliceOrder, T: BitStore>(
     requires bound { by ≤ window.len }
     ensures writes { Edits T.BITS W.at (map T.value elements.old) (map T.value elements.new) window (shifted_start by) }
 {
-    if is_few(window.len) {
+    if is_at_once::<T>(window.len) {
         return shift_start_few::<W, T>(elements, window, by);
     }
     let mut accessor = Exclusive::new(&mut *elements);
-    if by < WORD_BITS && is_edge::<T>(window.start + window.len) {
+    if by < WORD_BITS && window.len > WORD_BITS && is_edge::<T>(window.start + window.len) {
         let rest = window.len - WORD_BITS;
         W::block_copy_within::<Exclusive<T>>(&mut accessor, window, by, by + rest, 0);
         return shift_start_few::<W, T>(elements, window.range(rest, window.len), by);
@@ -82,11 +82,11 @@ fn shift_end_run<W: WordOrder + SliceOrder, T: BitStore>(
     requires bound { by ≤ window.len }
     ensures writes { Edits T.BITS W.at (map T.value elements.old) (map T.value elements.new) window (shifted_end by) }
 {
-    if is_few(window.len) {
+    if is_at_once::<T>(window.len) {
         return shift_end_few::<W, T>(elements, window, by);
     }
     let mut accessor = Exclusive::new(&mut *elements);
-    if by < WORD_BITS && is_edge::<T>(window.start) {
+    if by < WORD_BITS && window.len > WORD_BITS && is_edge::<T>(window.start) {
         let (from, to) = (WORD_BITS - by, window.len - by);
         W::block_copy_within::<Exclusive<T>>(&mut accessor, window, from, to, WORD_BITS);
         return shift_end_few::<W, T>(elements, window.range(0, WORD_BITS), by);
