@@ -9,14 +9,11 @@ use Rattle.bitvec_owned.proofs.growing.elements.put_same.Goals as goal
 pub fill_rest-requires : goal.fill_rest-requires
 fill_rest-requires g c =
     let room = c.in_ok-make_room.ensures in
-    let fits = room.fits in
     let end = room.inside in
-    rw c.as_mut_slice-slice.ensures.len (record { inside = omega arith; bounded = fits })
+    rw c.as_mut_slice-slice.ensures.len (record { inside = omega arith; bounded = room.fits })
 
 pub fill_rest-requires-2 : goal.fill_rest-requires-2
-fill_rest-requires-2 g c =
-    let room = c.in_ok-make_room.ensures in
-    rw (c.fill_rest.ensures.len, c.as_mut_slice-slice.ensures.len) (record { inside = room.inside; bounded = room.fits })
+fill_rest-requires-2 g c = let room = c.in_ok-make_room.ensures in rw (c.fill_rest.ensures.len, c.as_mut_slice-slice.ensures.len) (record { inside = room.inside; bounded = room.fits })
 
 pub returns-clause-left : goal.returns-clause-left
 returns-clause-left g c =
