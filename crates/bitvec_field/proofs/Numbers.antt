@@ -3,7 +3,7 @@ use Rattle.std.specs.Prelude.{◌≡◌, ℕ, ◌+◌, ◌*◌, ◌^◌, ◌<◌
 use Rattle.std.specs.Int.{from_bool}
 use Rattle.std.proofs.Common.{arith, length-append}
 use Rattle.std.proofs.Math.Nat.{pow-le-pow_right}
-use Rattle.std.proofs.lemmas.List.{length-take-le, take_all, take_more}
+use Rattle.std.proofs.lemmas.List.{length-take-le, take_more}
 use Rattle.std.proofs.lemmas.Nat.{pow-add}
 use Rattle.bitvec_segments.specs.NumberLaws.{segment_number-below}
 use Rattle.bitvec_segments.specs.Segments.{segment_number}
@@ -31,5 +31,3 @@ number-small bits i inside most =
 pub from_bool-small : (bit : Bool) → from_bool bit ≤ 1
 from_bool-small true = omega arith
 from_bool-small false = omega arith
-
-pub ruleset number_steps = (number-more, number-small, from_bool-small, take_all)

@@ -43,7 +43,7 @@ pub(crate) fn bits_in_element(width: usize, place: usize, left: usize) -> usize
 }
 
 /// The number of a view of at most four bits, the first one highest.
-#[tactic(auto, using(crate::proofs::Numbers::number_steps), unfolding(bitvec_segments::specs::Segments::segment_number))]
+#[tactic(auto, unfolding(bitvec_segments::specs::Segments::segment_number))]
 fn number_of<T: BitStore, O: BitOrder>(group: BitSlice<'_, T, O>) -> u8
     requires { (seen group).window.len ≤ 4 }
     ensures { result ≡ segment_number true (seen group.entry).bits }

@@ -1,5 +1,5 @@
 -- What is written into a window of a memory's bits, by the words on ranges and on whole lists.
-use Rattle.std.specs.Prelude.{◌≡◌, ℕ, ◌+◌, ◌-◌, ◌*◌, ◌≤◌, Bool, false, List, length, slice_index_or, slice_range, slice_set, map, not}
+use Rattle.std.specs.Prelude.{◌≡◌, ℕ, ◌+◌, ◌-◌, ◌*◌, ◌≤◌, Bool, false, List, length, slice_index_or, slice_range, slice_set, map}
 use Rattle.std.specs.List.{swap}
 use Rattle.std.proofs.Common.{arith, refl, sym, ◌∙◌, ap}
 use Rattle.std.proofs.lemmas.List.{length-map, length-set}
@@ -7,18 +7,16 @@ use Rattle.std.proofs.lemmas.List.Edits.{length-swap}
 use Rattle.bitvec_base.specs.LengthLaws as lasting
 use Rattle.bitvec_within.specs.Combined.{combined_within}
 use Rattle.bitvec_within.specs.CombinedLaws.{length-combined_within}
-use Rattle.bitvec_base.specs.Lists.{combined, copied_within}
+use Rattle.bitvec_base.specs.Lists.{copied_within}
 use Rattle.bitvec_base.specs.Memory.{HasWindow, Writes, memory_bits}
 use Rattle.bitvec_base.specs.SliceLaws.{range-all}
 use Rattle.bitvec_base.specs.Window.{max_bits, window_of, write_at}
 use Rattle.bitvec_base.specs.WriteLaws.{range-write_at, write_at-all}
 use Rattle.bitvec_base.specs.declared.window.Window.{Window}
-use Rattle.bitvec_segments.specs.Segments.{loaded, stored}
 use Rattle.bitvec_within.specs.Swaps.{swapped_within}
 use Rattle.bitvec_within.specs.SwapsLaws.{length-swapped}
 use Rattle.bitvec_in_place.specs.MovedLaws.{get-put_outside, length-bits_of, length-put}
-use Rattle.bitvec_in_place.specs.Ranges.{ChangesOnly, HasBits, bits_in, edited, flipped, joined, number_in, numbered}
-use Rattle.bitvec_in_place.specs.RangesLaws.{filled-write}
+use Rattle.bitvec_in_place.specs.Ranges.{ChangesOnly, HasBits, bits_in, edited}
 
 -- ---- the window of a range
 
@@ -35,27 +33,11 @@ window_has b value elements from to has =
     let room = ap (λ (n : ℕ). b * n) (length-map elements value) in
     record { fits = omega arith; within = record { start = omega arith; len = omega arith } }
 
--- each word by the range's bits
-
-pub flipped-is : (list : List Bool) (from to : ℕ) → flipped list from to ≡ write_at list from (map not (bits_in list from to))
-unfolding flipped bits_in
-flipped-is list from to = refl
+-- an edit by the range's bits
 
 pub edited-is : (edit : List Bool → List Bool) (list : List Bool) (from to : ℕ) → edited edit list from to ≡ write_at list from (edit (bits_in list from to))
 unfolding edited bits_in
 edited-is edit list from to = refl
-
-pub joined-is : (f : Bool → Bool → Bool) (list : List Bool) (from to : ℕ) (other : List Bool) → joined f list from to other ≡ write_at list from (combined f (bits_in list from to) other)
-unfolding joined bits_in
-joined-is f list from to other = refl
-
-pub number-is : (big high : Bool) (b : ℕ) (list : List Bool) (from to : ℕ) → number_in big high b list from to ≡ loaded big high b from (bits_in list from to)
-unfolding number_in bits_in
-number-is big high b list from to = refl
-
-pub numbered-is : (big high : Bool) (b : ℕ) (list : List Bool) (from to v : ℕ) → numbered big high b list from to v ≡ write_at list from (stored big high b from v (bits_in list from to))
-unfolding numbered bits_in
-numbered-is big high b list from to v = refl
 
 -- ---- the window of all
 
@@ -118,8 +100,6 @@ module _ {T : Type 0} (b : ℕ) (at : ℕ → ℕ → ℕ) (value : T → ℕ) (
         length = ap (λ (m : List Bool). length m) now ∙ length-put was from to list order (omega arith) size;
         bits = λ k apart. ap (λ (m : List Bool). slice_index_or m k false) now ∙ get-put_outside was from to list order (omega arith) size k false apart;
       }
-
-pub ruleset ranges = (arith, filled-write, flipped-is, edited-is, joined-is, number-is, numbered-is)
 
 pub ruleset wholes = (arith, length-bits_of, whole-set, whole-swap, whole-copy, whole-exchange, whole-combine)
 

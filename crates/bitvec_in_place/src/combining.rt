@@ -1,5 +1,5 @@
 //! The bits of a range and those of a view of any element type and order.
-#![tactic(auto, using(crate::proofs::Windows::ranges))]
+#![tactic(auto, unfolding(crate::specs::Ranges::bits_in, crate::specs::Ranges::joined))]
 
 ghost use Rattle.std.specs.Prelude.{◌≡◌, ◌-◌, length, map};
 ghost use Rattle.bitvec_base.specs.Memory.{memory_bits};

@@ -1,5 +1,5 @@
 //! Each bit of a range set, cleared or flipped.
-#![tactic(auto, using(crate::proofs::Windows::ranges))]
+#![tactic(auto, unfolding(crate::specs::Ranges::bits_in, crate::specs::Ranges::filled, crate::specs::Ranges::flipped))]
 
 ghost use Rattle.std.specs.Prelude.{◌≡◌, length, map};
 ghost use Rattle.bitvec_base.specs.Memory.{memory_bits};

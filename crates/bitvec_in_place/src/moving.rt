@@ -1,5 +1,5 @@
 //! The bits of a range moved: reversed, rotated, shifted; and those of a range copied to another place or exchanged.
-#![tactic(auto, using(crate::proofs::Windows::ranges))]
+#![tactic(auto, unfolding(crate::specs::Ranges::bits_in, crate::specs::Ranges::edited))]
 
 ghost use Rattle.std.specs.Prelude.{◌≡◌, ◌-◌, ◌≤◌, length, map, reverse as reversal};
 ghost use Rattle.bitvec_base.specs.Lists.{copied_within, rotated_left, rotated_right, shifted_end, shifted_start};

@@ -1,5 +1,5 @@
 //! Integers in ranges of bits.
-#![tactic(auto, using(crate::proofs::Windows::ranges))]
+#![tactic(auto, unfolding(crate::specs::Ranges::bits_in, crate::specs::Ranges::number_in, crate::specs::Ranges::numbered))]
 
 ghost use Rattle.std.specs.Prelude.{◌≡◌, ◌+◌, ◌-◌, ◌<◌, ◌≤◌, false, length, map, true};
 ghost use Rattle.bitvec_numbers.specs.Integers.{integer_of, remainder_of};

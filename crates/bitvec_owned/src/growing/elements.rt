@@ -1,5 +1,5 @@
 //! The elements of a sequence get more bits at their end, or lose the last ones.
-ghost use Rattle.std.specs.Prelude.{◌≡◌, ℕ, ◌+◌, ◌-◌, ◌*◌, ◌<◌, ◌≤◌, [], ◌∷◌, ◌++◌, OnErr, OnOk, false, if◌then◌else◌, is_ok, length, map, replicate, slice_index_or, take, vec_capacity, vec_len};
+ghost use Rattle.std.specs.Prelude.{◌≡◌, ◌+◌, ◌-◌, ◌*◌, ◌<◌, ◌≤◌, ◌++◌, OnErr, OnOk, false, if◌then◌else◌, is_ok, length, map, replicate, slice_index_or, take, vec_capacity, vec_len};
 ghost use Rattle.std.specs.Int.{div_ceil};
 ghost use Rattle.bitvec_base.specs.Memory.{memory_bits};
 ghost use Rattle.bitvec_base.specs.Window.{max_bits, write_at};
@@ -86,21 +86,6 @@ pub(crate) fn fill_rest<T: BitStore, O: BitOrder>(elements: &mut [T], place: usi
     fill_part::<O, Exclusive<T>>(&mut Exclusive::new(elements), part, bit);
 }
 
-/// Makes the bits of an element from the place `start` on `bit`, and then those of an element from the place `end` on 0.
-/// Condition: as for [`fill_rest`], of both places.
-fn fill_up_to<T: BitStore, O: BitOrder>(elements: &mut [T], start: usize, end: usize, bit: bool)
-    requires inside { start ≤ T.BITS * length elements.old }
-    requires end_inside { end ≤ T.BITS * length elements.old }
-    requires bounded { T.BITS * length elements.old ≤ max_bits }
-    ensures bits { memory_bits T.BITS O.at (map T.value elements.new)
-        ≡ write_at (write_at (memory_bits T.BITS O.at (map T.value elements.old)) start (replicate (rest_bits T.BITS start) bit))
-        end (replicate (rest_bits T.BITS end) false) }
-    ensures len { length elements.new ≡ length elements.old }
-{
-    fill_rest::<T, O>(elements, start, bit);
-    fill_rest::<T, O>(elements, end, false);
-}
-
 /// Adds so many of one bit behind the first `end`. An error where memory is refused and for more than `MAX_BITS` bits; the
 /// elements are as before then.
 #[inline(never)]
@@ -122,7 +107,9 @@ pub(crate) fn put_same<T: BitStore, O: BitOrder, A: Allocator>(
         return Err(AllocError);
     }
     make_room(elements, end + count, bit)?;
-    fill_up_to::<T, O>(elements.as_mut_slice(), end, end + count, bit);
+    let slice = elements.as_mut_slice();
+    fill_rest::<T, O>(slice, end, bit);
+    fill_rest::<T, O>(slice, end + count, false);
     Ok(())
 }
 

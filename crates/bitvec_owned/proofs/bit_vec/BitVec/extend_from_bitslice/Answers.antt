@@ -6,8 +6,7 @@ use Rattle.bitvec_owned.proofs.bit_vec.BitVec.extend_from_bitslice.Goals as goal
 
 pub copy_from_in-requires-clause-window : goal.copy_from_in-requires-clause-window
 copy_from_in-requires-clause-window g c =
-    let room = c.in_ok-make_room.ensures in
-    has-window _ g.O.BitOrder.at g.T.BitStore.value (width_some _ g.met.T.BitStore.width_law) _ _ _ _ c.as_mut_slice.ensures.len room.fits room.inside
+    let room = c.in_ok-make_room.ensures in has-window _ g.O.BitOrder.at g.T.BitStore.value (width_some _ g.met.T.BitStore.width_law) _ _ _ _ c.as_mut_slice.ensures.len room.fits room.inside
 
 pub invariant_of-self-2 : goal.invariant_of-self-2
 invariant_of-self-2 g c =

@@ -6,8 +6,7 @@ use Rattle.bitvec_owned.proofs.bit_vec.BitVec.push.Goals as goal
 
 pub set_in-requires-clause-window : goal.set_in-requires-clause-window
 set_in-requires-clause-window g c =
-    let room = c.in_ok-make_room_for_bit.ensures in
-    let inside = room.inside in
+    let room = c.in_ok-make_room_for_bit.ensures in let inside = room.inside in
     has-window _ g.O.BitOrder.at g.T.BitStore.value (width_some _ g.met.T.BitStore.width_law) _ _ _ _ c.as_mut_slice.ensures.len room.fits (omega arith)
 
 pub invariant_of-self-2 : goal.invariant_of-self-2
