@@ -70,13 +70,6 @@ fn parse_u64(word: &str) -> Option<u64>
     word.parse().ok()
 }
 
-/// The number of a word, which has at most 64 bits.
-fn parse_count(word: &str) -> Option<usize>
-    ensures { result ≡ number_of 64 word.now }
-{
-    word.parse().ok()
-}
-
 /// A serial port with three fields; its reserved bits are ones. Condition: the parity is below 4.
 #[tactic(auto, using(bitvec::specs::Laws::bitwise))]
 fn make_uart(baud: u16, parity: u8, byte: u8) -> Uart
@@ -157,9 +150,9 @@ fn parse_chunks(words: &[String]) -> Option<Part>
     let [count] = words else {
         return None;
     };
-    let count = parse_count(count.as_str())?;
+    let count = parse_u64(count.as_str())?;
     if count < 9 {
-        Some(Part::Chunks(make_chunks(count)))
+        Some(Part::Chunks(make_chunks(count as usize)))
     } else {
         None
     }

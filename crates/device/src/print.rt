@@ -15,9 +15,8 @@ use std::io::{self, Write};
 fn print_fields<W: Write>(output: &mut W, uart: &Uart) -> io::Result<()>
     ensures { OnOk result (Appends (W.contents output.old) (W.contents output.new) (fields_text uart.now)) }
 {
-    writeln!(output, "baud {}", uart.baud())?;
-    writeln!(output, "parity {}", uart.parity())?;
-    writeln!(output, "data {}", uart.data())
+    let (baud, parity, data) = (uart.baud(), uart.parity(), uart.data());
+    writeln!(output, "baud {baud}\nparity {parity}\ndata {data}")
 }
 
 /// Prints the registers of a serial port, each on a line.
