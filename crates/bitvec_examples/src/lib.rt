@@ -17,8 +17,6 @@ mod lends_known;
 #[cfg(test)]
 mod lent_known;
 #[cfg(test)]
-mod marks;
-#[cfg(test)]
 mod parts_lent;
 #[cfg(test)]
 mod sequences;
