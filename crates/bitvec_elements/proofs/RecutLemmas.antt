@@ -1,20 +1,18 @@
 -- Windows written by whole words of another memory, and by blocks.
-use Rattle.std.specs.Prelude.{◌≡◌, ℕ, ◌+◌, ◌*◌, ◌/◌, ◌%◌, ◌<◌, ◌≤◌, min, Bool, List, length, slice_range, take}
+use Rattle.std.specs.Prelude.{◌≡◌, ℕ, ◌+◌, ◌-◌, ◌*◌, ◌/◌, ◌%◌, ◌<◌, ◌≤◌, min, Bool, List, length, slice_range, take}
 use Rattle.std.proofs.Common.{arith, rules, subst, sym, ◌∙◌, ap}
 use Rattle.std.proofs.Math.Nat.{mul-le-mul_left}
 use Rattle.std.proofs.lemmas.List.{places, same_lists}
+use Rattle.std.proofs.lemmas.Nat.{div-add-mod'}
 use Rattle.bitvec_passes.specs.Pairs.{HasPair}
-use Rattle.bitvec_words.specs.WordLaws.{padded-all, word_whole}
+use Rattle.bitvec_words.specs.WordLaws.{word_whole}
 use Rattle.bitvec_words.specs.CombinedLaws.{combined-range}
-use Rattle.bitvec_words.specs.Elements.{elements_window}
-use Rattle.bitvec_words.specs.ShortWindow.{padded}
-use Rattle.bitvec_words.specs.WholeLaws.{Writes-same}
+use Rattle.bitvec_words.specs.Elements.{elements_window, elements_window_from}
 use Rattle.bitvec_base.specs.declared.window.Window.{Window}
 use Rattle.bitvec_base.specs.Lists.{combined}
 use Rattle.bitvec_base.specs.ListsLaws.{length-combined}
 use Rattle.bitvec_base.specs.Memory.{HasWindow, Writes, element_bits, list_in}
 use Rattle.bitvec_base.specs.Window.{window_range}
-use Rattle.bitvec_base.specs.WriteLaws.{length-slice_range}
 use Rattle.bitvec_base.specs.WritesLaws.{length-list, list-range}
 use Rattle.bitvec_store.specs.Width.{IsWidth}
 use Rattle.bitvec_store.specs.WidthLaws.{at_each_width}
@@ -22,27 +20,41 @@ use Rattle.bitvec_elements.proofs.StoreLemmas.{stretch-next, stretch-old, until}
 
 -- ---- whole words
 
--- where a word begins, an element does
-pub edge-place : (b s : ℕ) → IsWidth b → b ≤ 64 → s % 64 ≡ 0 → s / b * b ≡ s
-edge-place b s width narrow edge = at_each_width (λ n. n ≤ 64 → s / n * n ≡ s) (λ _. omega arith) (λ _. omega arith) (λ _. omega arith) (λ _. omega arith) (λ wide. absurd (omega arith)) b width narrow
+-- the elements of a window's word k, and those of a window that begins at the edge of a word
+module _ (b w k : ℕ) (window : Window) (width : IsWidth b) (is : w ≡ b) (narrow : b ≤ 64) where
+  at_place : (s r : ℕ) → s ≡ window.start + k * 64 → r ≡ 64 → (let it : Window = record { start = s; len = r } in it) ≡ window_range window (k * 64) (k * 64 + 64)
+  at_place s r start size =
+      let len : r ≡ k * 64 + 64 - k * 64 = omega arith in
+      ap (λ (n : ℕ). (let it : Window = record { start = n; len = r } in it)) start ∙ ap (λ (n : ℕ). (let it : Window = record { start = window.start + k * 64; len = n } in it)) len
+
+  place : (window.start / b + k * (64 / b)) * b + window.start % b ≡ window.start + k * 64
+  place =
+      let row = ap (λ (m : ℕ). k * m) (word_whole b width narrow) in
+      let cut = div-add-mod' window.start b in
+      omega arith
+
+  pub word-window : elements_window_from b (window.start / w + k * (64 / w)) (window.start % w) (64 / b) ≡ window_range window (k * 64) (k * 64 + 64)
+  word-window = rw is (at_place _ _ place (word_whole b width narrow))
+
+  pub edge-window : window.start % 64 ≡ 0 → elements_window b (window.start / w + k * (64 / w)) (64 / b) ≡ window_range window (k * 64) (k * 64 + 64)
+  edge-window edge =
+      let at_edge : window.start % b ≡ 0 = at_each_width (λ n. n ≤ 64 → window.start % n ≡ 0) (λ _. omega arith) (λ _. omega arith) (λ _. omega arith) (λ _. edge) (λ wide. absurd (omega arith)) b width narrow in
+      let start : (window.start / b + k * (64 / b)) * b ≡ window.start + k * 64 = omega (arith, place) in
+      rw is (at_place _ _ start (word_whole b width narrow))
 
 -- a word more of another memory
-pub word-recut : {b d : ℕ} {at : ℕ → ℕ → ℕ} (way : ℕ → ℕ → ℕ) {old mid new ys : List ℕ} {to from place source : Window} (k : ℕ) {next first : ℕ} (word made : ℕ) → IsWidth b → b ≤ 64 → HasPair b old to d ys from → to.start % 64 ≡ 0 → k < to.len / 64 → next ≡ k + 1
-    → place ≡ window_range to (k * 64) (k * 64 + 64) → source ≡ window_range from (k * 64) (k * 64 + 64) → first ≡ place.start / b
-    → element_bits 64 way word ≡ padded 64 (list_in d way ys source) → element_bits 64 at made ≡ element_bits 64 way word
-    → Writes b at old mid (until to (k * 64)) (take (k * 64) (list_in d way ys from)) → Writes b at mid new (elements_window b first (64 / b)) (element_bits 64 at made)
+pub word-recut : {b d w e : ℕ} {at : ℕ → ℕ → ℕ} (way : ℕ → ℕ → ℕ) {old mid new ys : List ℕ} {to from : Window} (k : ℕ) {next : ℕ} (word made : ℕ) → IsWidth b → IsWidth d → w ≡ b → e ≡ d → b ≤ 64 → d ≤ 64 → HasPair b old to d ys from
+    → to.start % 64 ≡ 0 → k < to.len / 64 → next ≡ k + 1
+    → element_bits 64 way word ≡ list_in d way ys (elements_window_from d (from.start / e + k * (64 / e)) (from.start % e) (64 / d)) → element_bits 64 at made ≡ element_bits 64 way word
+    → Writes b at old mid (until to (k * 64)) (take (k * 64) (list_in d way ys from)) → Writes b at mid new (elements_window b (to.start / w + k * (64 / w)) (64 / b)) (element_bits 64 at made)
     → Writes b at old new (until to (next * 64)) (take (next * 64) (list_in d way ys from))
-word-recut {b} {d} {at} way {old} {mid} {new} {ys} {to} {from} {place} {source} k {next} {first} word made width narrow pair edge below more is other-is index loaded reordered before after =
+word-recut {b} {d} {w} {e} {at} way {old} {mid} {new} {ys} {to} {from} k {next} word made width others same alike narrow short pair edge below more loaded reordered before after =
     let list = list_in d way ys from in
     let lengths = pair.lengths in
     let end : k * 64 + 64 ≤ to.len = omega arith in
     let long = length-list way pair.beside ∙ sym lengths in
-    let size = length-slice_range list (k * 64) (k * 64 + 64) (omega arith) in
-    let cut = ap (list_in d way ys) other-is ∙ list-range way (k * 64) (k * 64 + 64) pair.beside (omega arith) (omega arith) in
-    let bits = reordered ∙ loaded ∙ ap (padded 64) cut ∙ padded-all (let full : length (slice_range list (k * 64) (k * 64 + 64)) ≡ 64 = omega arith in full) in
-    let whole = word_whole b width narrow in
-    let at_edge = edge-place b (to.start + k * 64) width narrow (omega arith) in
-    let stored = Writes-same (elements_window b ((to.start + k * 64) / b) (64 / b)) (window_range to (k * 64) (k * 64 + 64)) (omega arith) (omega arith) (rw (index, is) at after) in
+    let bits = reordered ∙ loaded ∙ ap (list_in d way ys) (word-window d e k from others alike short) ∙ list-range way (k * 64) (k * 64 + 64) pair.beside (omega arith) (omega arith) in
+    let stored = subst (λ (part : Window). Writes b at mid new part (element_bits 64 at made)) (edge-window b w k to width same narrow edge) after in
     subst (λ (m : ℕ). Writes b at old new (until to m) (take m list)) (let all : k * 64 + 64 ≡ next * 64 = omega arith in all)
     (stretch-next new list (k * 64) (k * 64 + 64) pair.window (omega arith) end long bits before stored)
 

@@ -6,10 +6,10 @@ ghost use Rattle.bitvec_passes.specs.Pairs.{HasPair};
 ghost use Rattle.bitvec_base.specs.Memory.{HasWindow, Writes, list_in};
 
 use crate::copying::copy_words;
-use crate::window_words::reordered;
+use crate::window_words::{reordered, word_behind};
 use bitvec_base::{BitOrder, Window};
-use bitvec_cells::{Exclusive, Shared};
-use bitvec_few::{is_few, load_parts};
+use bitvec_cells::Exclusive;
+use bitvec_few::is_few;
 use bitvec_store::BitStore;
 use bitvec_words::{WORD_BITS, WordOrder, store_elements};
 
@@ -62,14 +62,15 @@ pub(crate) fn recut<W: WordOrder, P: BitOrder, T: BitStore, U: BitStore>(
     ensures writes { Writes T.BITS W.at (map T.value left.old) (map T.value left.new) to
         (list_in U.BITS P.at (map U.value right.now) from) }
 {
-    if T::BITS as usize <= WORD_BITS && !is_few(to.len) {
+    let narrow = T::BITS as usize <= WORD_BITS && U::BITS as usize <= WORD_BITS;
+    if narrow && !is_few(to.len) {
         return_by_direction!(P, U => recut_run::<_, W, T, U>(left, to, right, from));
     }
     copy_words::<W, T, U, P>(left, to, right, from);
 }
 
 /// [`recut`] where both orders run from one end of an element to the other. Conditions: as for [`recut`]; no element
-/// of the left memory is wider than a word, and the windows have as many bits.
+/// is wider than a word, and the windows have as many bits.
 #[tactic(auto)]
 fn recut_run<V: WordOrder, W: WordOrder, T: BitStore, U: BitStore>(
     left: &mut [T],
@@ -79,6 +80,7 @@ fn recut_run<V: WordOrder, W: WordOrder, T: BitStore, U: BitStore>(
 )
     requires pair { HasPair T.BITS (map T.value left.old) to U.BITS (map U.value right.now) from }
     requires narrow { T.BITS ≤ 64 }
+    requires right_narrow { U.BITS ≤ 64 }
     requires some { 64 ≤ to.len }
     ensures writes { Writes T.BITS W.at (map T.value left.old) (map T.value left.new) to
         (list_in U.BITS V.at (map U.value right.now) from) }
@@ -102,17 +104,18 @@ fn recut_words<W: WordOrder, V: WordOrder, T: BitStore, U: BitStore>(
 )
     requires pair { HasPair T.BITS (map T.value left.old) to U.BITS (map U.value right.now) from }
     requires narrow { T.BITS ≤ 64 }
+    requires right_narrow { U.BITS ≤ 64 }
     requires edge { to.start % 64 ≡ 0 }
     requires whole { to.len % 64 ≡ 0 }
     ensures writes { Writes T.BITS W.at (map T.value left.old) (map T.value left.new) to
         (list_in U.BITS V.at (map U.value right.now) from) }
 {
+    let (bits, others) = (T::BITS as usize, U::BITS as usize);
+    let (first, source, skip) = (to.start / bits, from.start / others, from.start % others);
     let mut cells = Exclusive::new(left);
     for step in 0..to.len / WORD_BITS {
-        let (start, end) = (step * WORD_BITS, step * WORD_BITS + WORD_BITS);
-        let (place, source) = (to.range(start, end), from.range(start, end));
-        let word = load_parts::<V, Shared<U>>(&mut Shared::new(right), source);
+        let word = word_behind::<V, U>(right, source + step * (WORD_BITS / others), skip);
         let made = reordered::<V, W>(word);
-        store_elements::<W, Exclusive<T>>(&mut cells, place.element::<T>(), made);
+        store_elements::<W, Exclusive<T>>(&mut cells, first + step * (WORD_BITS / bits), made);
     }
 }
