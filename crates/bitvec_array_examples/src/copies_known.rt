@@ -1,5 +1,6 @@
 //! What a caller knows of copies of a view, of repeats, and of a view that a sequence lends.
 ghost use Rattle.std.specs.Prelude.{◌≡◌, IfOk, map, not};
+ghost use Rattle.std.specs.List.{repeat};
 ghost use Rattle.bitvec.specs.Copies.{Holds, copy_start};
 ghost use Rattle.bitvec.specs.Counts.{ones_of};
 ghost use Rattle.bitvec.specs.Owned.{owned};
@@ -19,6 +20,16 @@ pub fn flipped<T: BitStore, O: SliceOrder>(
     let mut copy = view.to_bitvec(alloc)?;
     copy.invert();
     Ok(copy)
+}
+
+/// The bits twice, in memory of their own.
+pub fn twice<T: BitStore, O: SliceOrder>(
+    alloc: Global,
+    view: BitSlice<'_, T, O>,
+) -> Result<BitVec<T, O, Global>, RepeatError>
+    ensures { IfOk result (λ copy. Holds T.BITS (repeat 2 (seen view.entry).bits) 0 (owned copy)) }
+{
+    view.repeat(alloc, 2)
 }
 
 /// Flips a sequence's bits through a view of them, and gives how many were 1: of the sequence it is known that

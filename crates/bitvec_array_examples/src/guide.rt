@@ -1,8 +1,10 @@
 //! The functions that docs/GUIDE.md builds, others over the same seats, and what they answer.
 ghost use Rattle.std.specs.Prelude.{◌≡◌, ◌+◌, ◌-◌, ◌%◌, ◌<◌, ◌≤◌, IfNone, IfOk, IfSome, count_by, false, map, pos, replicate, slice_range, slice_set, true};
+ghost use Rattle.bitvec.specs.Copies.{Holds, copy_start};
 ghost use Rattle.bitvec.specs.Cutting.{chunk, chunk_count};
 ghost use Rattle.bitvec.specs.Indices.{HasRange};
 ghost use Rattle.bitvec.specs.Lists.{first_place, places_of};
+ghost use Rattle.bitvec.specs.Owned.{owned};
 ghost use Rattle.bitvec.specs.PieceParts.{parts_of};
 ghost use Rattle.bitvec.specs.Segments.{loaded_be};
 ghost use Rattle.bitvec.specs.Views.{seen, seen_mut};
@@ -74,6 +76,16 @@ pub fn train_number(header: BitSlice<'_, u8, Msb0>) -> u16
     ensures { pos result ≡ pos (loaded_be true 8 (((seen header.entry).window.start + 4) % 8) (slice_range (seen header.entry).bits 4 16)) }
 {
     header.into_part(4..16).load_be::<u16>()
+}
+
+/// A copy of the seats, in memory of its own.
+pub fn snapshot<T: BitStore, O: SliceOrder>(
+    alloc: Global,
+    seats: BitSlice<'_, T, O>,
+) -> Result<BitVec<T, O, Global>, AllocError>
+    ensures { IfOk result (λ copy. Holds T.BITS (seen seats.entry).bits (copy_start T.BITS (seen seats.entry).window) (owned copy)) }
+{
+    seats.to_bitvec(alloc)
 }
 
 #[test]

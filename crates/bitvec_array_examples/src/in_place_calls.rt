@@ -67,35 +67,37 @@ fn after(edit: u8) -> [u8; 2] {
 #[test]
 fn a_range_is_counted(rt: HostRuntime) {
     let bytes = [0x2Fu8, 0x0C];
-    let counts = [
-        in_place::count_ones::<u8, Lsb0>(&bytes, 2..12),
-        in_place::count_zeros::<u8, Lsb0>(&bytes, 2..12),
-        in_place::leading_ones::<u8, Lsb0>(&bytes, 2..12),
-        in_place::trailing_ones::<u8, Lsb0>(&bytes, 2..12),
-        in_place::leading_zeros::<u8, Lsb0>(&bytes, 4..10),
-        in_place::trailing_zeros::<u8, Lsb0>(&bytes, 4..10),
-    ];
-    assert!(rt; counts == [5, 5, 2, 2, 1, 4]);
-    let places = [
-        in_place::first_one::<u8, Lsb0>(&bytes, 2..12),
-        in_place::first_zero::<u8, Lsb0>(&bytes, 2..12),
-        in_place::last_one::<u8, Lsb0>(&bytes, 2..12),
-        in_place::last_zero::<u8, Lsb0>(&bytes, 2..12),
-    ];
-    assert!(rt; places == [Some(0), Some(2), Some(9), Some(7)]);
+    let ones = in_place::count_ones::<u8, Lsb0>(&bytes, 2..12);
+    let zeros = in_place::count_zeros::<u8, Lsb0>(&bytes, 2..12);
+    let leading = in_place::leading_ones::<u8, Lsb0>(&bytes, 2..12);
+    let trailing = in_place::trailing_ones::<u8, Lsb0>(&bytes, 2..12);
+    assert!(rt; [ones, zeros, leading, trailing] == [5, 5, 2, 2]);
+    let leading = in_place::leading_zeros::<u8, Lsb0>(&bytes, 4..10);
+    let trailing = in_place::trailing_zeros::<u8, Lsb0>(&bytes, 4..10);
+    assert!(rt; [leading, trailing] == [1, 4]);
+    let first = in_place::first_one::<u8, Lsb0>(&bytes, 2..12);
+    let zero = in_place::first_zero::<u8, Lsb0>(&bytes, 2..12);
+    assert!(rt; (first, zero) == (Some(0), Some(2)));
+    let last = in_place::last_one::<u8, Lsb0>(&bytes, 2..12);
+    let zero = in_place::last_zero::<u8, Lsb0>(&bytes, 2..12);
+    assert!(rt; (last, zero) == (Some(9), Some(7)));
 }
 
 #[test]
 fn a_range_is_asked(rt: HostRuntime) {
     let bytes = [0x2Fu8, 0x0C];
-    let answers = [
-        in_place::any::<u8, Lsb0>(&bytes, 6..11),
-        in_place::all::<u8, Lsb0>(&bytes, 0..4),
-        in_place::not_any::<u8, Lsb0>(&bytes, 6..10),
-        in_place::not_all::<u8, Lsb0>(&bytes, 0..5),
-        in_place::some::<u8, Lsb0>(&bytes, 3..5),
-    ];
-    assert!(rt; answers == [true; 5]);
+    assert!(rt;
+        in_place::any::<u8, Lsb0>(&bytes, 6..11) && !in_place::any::<u8, Lsb0>(&bytes, 6..10)
+    );
+    assert!(rt;
+        in_place::all::<u8, Lsb0>(&bytes, 0..4) && !in_place::all::<u8, Lsb0>(&bytes, 0..5)
+    );
+    assert!(rt;
+        in_place::not_any::<u8, Lsb0>(&bytes, 6..10) && in_place::not_all::<u8, Lsb0>(&bytes, 0..5)
+    );
+    assert!(rt;
+        in_place::some::<u8, Lsb0>(&bytes, 3..5) && !in_place::some::<u8, Lsb0>(&bytes, 0..4)
+    );
 }
 
 #[test]
@@ -109,6 +111,7 @@ fn a_range_is_compared(rt: HostRuntime) {
     assert!(rt; in_place::ends_with::<u8, Lsb0, u8, Msb0>(&bytes, 2..12, end));
     let middle = BitSlice::<u16, Lsb0>::from_slice(&[0x0001]).into_part(0..5);
     assert!(rt; in_place::contains::<u8, Lsb0, u16, Lsb0>(&bytes, 2..12, middle));
+    assert!(rt; !in_place::contains::<u8, Lsb0, u16, Lsb0>(&bytes, 6..12, middle));
 }
 
 #[test]

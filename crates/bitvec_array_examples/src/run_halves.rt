@@ -47,18 +47,7 @@ fn run_lsb0(bytes: &mut [u8; 1], out: &mut [Reply; 4]) {
 fn refused_steps_leave_their_half(rt: HostRuntime) {
     let mut bytes = [0x00u8];
     let mut out = [Reply::Done; 6];
-    let steps = [
-        (Side::Left, step(0, 5, Op::Set(4, true))),
-        (Side::Right, step(0, 2, Op::Fill(true))),
-        (Side::Left, step(0, 5, Op::Set(5, true))),
-        (Side::Right, step(1, 3, Op::RotateLeft(1))),
-        (Side::Left, step(0, 5, Op::CountOnes)),
-        (Side::Left, step(0, 6, Op::Fill(true))),
-    ];
-    {
-        let mut view = BitSliceMut::<u8, Msb0>::from_slice_mut(&mut bytes);
-        run_apart(&mut view, 5, &steps, &mut out);
-    }
+    run_msb0(&mut bytes, &mut out);
     let refused = [
         Reply::Done,
         Reply::Done,
@@ -69,6 +58,19 @@ fn refused_steps_leave_their_half(rt: HostRuntime) {
     ];
     assert!(rt; out == refused);
     assert!(rt; bytes == [0x0D]);
+}
+
+fn run_msb0(bytes: &mut [u8; 1], out: &mut [Reply; 6]) {
+    let steps = [
+        (Side::Left, step(0, 5, Op::Set(4, true))),
+        (Side::Right, step(0, 2, Op::Fill(true))),
+        (Side::Left, step(0, 5, Op::Set(5, true))),
+        (Side::Right, step(1, 3, Op::RotateLeft(1))),
+        (Side::Left, step(0, 5, Op::CountOnes)),
+        (Side::Left, step(0, 6, Op::Fill(true))),
+    ];
+    let mut view = BitSliceMut::<u8, Msb0>::from_slice_mut(bytes);
+    run_halves(&mut view, 5, &steps, BitSlice::empty(), out);
 }
 
 fn step(from: usize, to: usize, op: Op) -> Step {

@@ -1,14 +1,15 @@
-//! The header of a packet: eight fields that are read one by one.
-ghost use Rattle.std.specs.Prelude.{◌*◌, ◌<◌, ◌≤◌, IfOk, OnErr, length};
+//! The header of a packet: eight fields that are written as one row, and read one by one.
+ghost use Rattle.std.specs.Prelude.{◌≡◌, ◌*◌, ◌<◌, ◌≤◌, IfOk, OnErr, OnOk, length};
 ghost use Rattle.bitvec.specs.Arrays.{msb0_bits};
+ghost use Rattle.bitvec.specs.Ranges.{ChangesOnly};
 ghost use Rattle.bitvec.specs.Window.{max_bits};
-ghost use Rattle.bitvec_code_examples.specs.Headers.{HasHeader};
+ghost use Rattle.bitvec_code_examples.specs.Headers.{FitsHeader, HasHeader};
 
-use bitvec::in_place::{BitReader, CursorError};
+use bitvec::in_place::{self, BitReader, BitWriter, CursorError};
 use bitvec::prelude::*;
 
 /// The first fields of a packet of the Internet Protocol.
-#[derive(Clone, Copy, Drop, PartialEq)]
+#[derive(Clone, Copy, Debug, Drop, PartialEq)]
 pub struct Header {
     pub version: u8,
     pub words: u8,
@@ -18,6 +19,29 @@ pub struct Header {
     pub id: u16,
     pub flags: u8,
     pub offset: u16,
+}
+
+/// Writes the fields to the first 64 bits; every other bit stays. Conditions: the buffer has at most `MAX_BITS` bits, and
+/// each field fits its bits.
+#[tactic(auto, using(bitvec::specs::Laws::cursors))]
+pub fn encode(bytes: &mut [u8], header: Header) -> Result<(), CursorError>
+    requires fits { 8 * length bytes.old ≤ max_bits }
+    requires fields { FitsHeader header.version header.words header.service header.mark header.flags header.offset }
+    ensures header { OnOk result (HasHeader (msb0_bits 8 bytes.new) header.version header.words header.service header.mark header.len header.id header.flags header.offset) }
+    ensures outside { ChangesOnly 0 64 (msb0_bits 8 bytes.old) (msb0_bits 8 bytes.new) }
+    ensures refused { OnErr result (length bytes.old < 8) }
+{
+    BitWriter::<u8, Msb0>::new(bytes).put_row(&[
+        (4, u64::from(header.version)),
+        (4, u64::from(header.words)),
+        (6, u64::from(header.service)),
+        (2, u64::from(header.mark)),
+        (16, u64::from(header.len)),
+        (16, u64::from(header.id)),
+        (3, u64::from(header.flags)),
+        (13, u64::from(header.offset)),
+    ])?;
+    Ok(())
 }
 
 /// The fields that stand in the first 64 bits. Condition: the buffer has at most `MAX_BITS` bits.
@@ -40,9 +64,19 @@ pub fn decode(bytes: &[u8]) -> Result<Header, CursorError>
     })
 }
 
+/// Writes the fields and reads one of them where it stands.
+#[tactic(auto, using(bitvec::specs::Laws::cursors))]
+pub fn id_of(bytes: &mut [u8; 8], header: Header) -> Result<u16, CursorError>
+    requires { FitsHeader header.version header.words header.service header.mark header.flags header.offset }
+    ensures { IfOk result (λ id. id ≡ header.id) }
+{
+    encode(bytes, header)?;
+    Ok(in_place::load_be::<u8, Msb0, u16>(bytes, 32..48))
+}
+
 // 4 and 5, then 46 and 2, 0x1234, 0xABCD, 2 and 0x123.
 #[test]
-fn a_header_is_read(rt: HostRuntime) {
+fn headers_come_back(rt: HostRuntime) {
     let header = Header {
         version: 4,
         words: 5,
@@ -53,7 +87,9 @@ fn a_header_is_read(rt: HostRuntime) {
         flags: 2,
         offset: 0x123,
     };
-    let bytes = [0x45u8, 0xBA, 0x12, 0x34, 0xAB, 0xCD, 0x41, 0x23];
+    let mut bytes = [0u8; 8];
+    assert!(rt; id_of(&mut bytes, header) == Ok(0xABCD));
+    assert!(rt; bytes == [0x45, 0xBA, 0x12, 0x34, 0xAB, 0xCD, 0x41, 0x23]);
     assert!(rt; decode(&bytes) == Ok(header));
     assert!(rt; decode(&bytes[..7]) == Err(CursorError::Ended));
 }

@@ -1,133 +1,112 @@
-//! Sequences that grow: calls at the ends of a sequence and within it, and the memory that they take.
+//! Sequences that grow: calls at the ends of a sequence and within it, those of empty ones, and the memory that they take.
 
 use bitvec_base::{Lsb0, Msb0};
+use bitvec_edit::BitEdits;
 use bitvec_owned::BitVec;
 use bitvec_slice::BitSlice;
 use std::alloc::{AllocError, Global};
 
 type Bytes = BitVec<u8, Lsb0, Global>;
 
-/// The bits 1, 0, 1, 1, 0, 0, 0, 0, 1.
-const NINE: [bool; 9] = [true, false, true, true, false, false, false, false, true];
-
-/// Whether a sequence was made, and has so many bits in these elements.
-fn holds(made: Result<Bytes, AllocError>, len: usize, elements: &[u8]) -> bool {
-    match made {
-        Ok(bits) => bits.len() == len && bits.as_raw_slice() == elements,
-        Err(_) => false,
-    }
+/// Whether calls on no bits, and calls at and past the end, do what they do to a list.
+fn at_the_ends(alloc: Global) -> Result<bool, AllocError> {
+    let mut bits = Bytes::new_in(alloc);
+    let nothing = bits.pop().is_none() && bits.capacity() == 0 && bits.as_raw_slice().is_empty();
+    bits.truncate(9);
+    bits.clear();
+    let none = bits.drain(0..0)?.is_empty() && bits.split_off(0)?.is_empty();
+    bits.extend_from_bitslice(BitSlice::<u8, Lsb0>::empty())?;
+    bits.resize(0, true)?;
+    let still = bits.as_raw_slice().is_empty();
+    bits.insert(0, true)?;
+    bits.insert(1, true)?;
+    bits.truncate(5);
+    let two = bits.as_raw_slice() == [3].as_slice();
+    let first = bits.remove(0) && bits.swap_remove(0) && bits.is_empty();
+    Ok(nothing && none && still && two && first)
 }
 
-/// Whether five bits of three elements, from the index 4 on, are a sequence, which drops the third element.
-fn is_made_of_elements(alloc: Global) -> bool {
-    match vec![in alloc; 0xD0u8, 0xE0, 0xFF] {
-        Ok(elements) => {
-            if elements.len() != 3 {
-                return false;
-            }
-            holds(Ok(Bytes::from_elements(elements, 4, 5)), 5, &[0xD0, 0xE0])
-        }
-        Err(_) => false,
-    }
-}
-
-/// Whether numbers are added behind nine ones.
-fn takes_numbers(made: Result<Bytes, AllocError>) -> bool {
-    match made {
-        Ok(mut bits) => {
-            bits.extend_highest_first(0xFFFD, 4).is_ok()
-                && bits.extend_lowest_first(0xFFFD, 4).is_ok()
-                && bits.len() == 17
-                && bits.as_raw_slice() == [0xFF, 0xB7, 0x01].as_slice()
-        }
-        Err(_) => false,
-    }
-}
-
-#[test]
-fn sequences_are_made(rt: HostRuntime) {
-    let nine = Bytes::from_bools(rt.alloc(), &NINE);
-    assert!(rt; holds(nine, 9, &[0x0D, 0x01]));
-    let view = BitSlice::<u16, Msb0>::from_slice(&[0xB080]).into_part(0..9);
-    assert!(rt; holds(Bytes::from_bitslice(rt.alloc(), view), 9, &[0x0D, 0x01]));
-    assert!(rt; is_made_of_elements(rt.alloc()));
-    assert!(rt; takes_numbers(Bytes::repeat(rt.alloc(), true, 9)));
+/// Whether `retain` leaves no bits as they are, keeps all of some, then the ones and every third, the last one, and none.
+fn retains_all_or_none(alloc: Global) -> Result<bool, AllocError> {
+    let mut nothing = Bytes::new_in(alloc);
+    nothing.retain(|_, bit| *bit);
+    let bools = [true, false, true, false, false, true, true, false, true];
+    let mut bits = Bytes::from_bools(alloc, &bools)?;
+    bits.retain(|_, _| true);
+    let all = bits.as_raw_slice() == [0x65, 0x01].as_slice();
+    bits.retain(|place, bit| *bit || place % 3 == 0);
+    let some = bits.as_raw_slice() == [0x3B].as_slice();
+    bits.retain(|place, _| place == 5);
+    let last = bits.as_raw_slice() == [0x01].as_slice();
+    bits.retain(|_, bit| !*bit);
+    Ok(nothing.is_empty() && all && some && last && bits.as_raw_slice().is_empty())
 }
 
 /// Whether a sequence has the memory that it asked for, and gives back what it doesn't need.
-fn has_room(made: Result<Bytes, AllocError>) -> bool {
-    match made {
-        Ok(mut bits) => {
-            let room = bits.is_empty() && bits.capacity() == 24;
-            let is_granted = bits.resize(3, true).is_ok() && bits.reserve(100).is_ok();
-            let more = bits.len() == 3 && bits.capacity() >= 103;
-            bits.shrink_to_fit();
-            room && is_granted && more && bits.capacity() == 8
-        }
-        Err(_) => false,
-    }
+fn has_room(alloc: Global) -> Result<bool, AllocError> {
+    let mut bits = Bytes::with_capacity_in(alloc, 17)?;
+    let room = bits.is_empty() && bits.capacity() == 24;
+    bits.resize(3, true)?;
+    bits.reserve(100)?;
+    let more = bits.len() == 3 && bits.capacity() >= 103;
+    bits.shrink_to_fit();
+    Ok(room && more && bits.capacity() == 8)
 }
 
-/// Whether of nine bits the ones and every third stay: 1, 1, 1, 0, 1.
-fn keeps_some(made: Result<Bytes, AllocError>) -> bool {
-    match made {
-        Ok(mut bits) => {
-            bits.retain(|place, bit| *bit || place % 3 == 0);
-            bits.as_raw_slice() == [0x17].as_slice()
-        }
-        Err(_) => false,
-    }
+/// Whether sequences are made of truth values, of views and of elements.
+fn are_made(alloc: Global) -> Result<bool, AllocError> {
+    let bools = [true, false, true, true, false, false, false, false, true];
+    let made = Bytes::from_bools(alloc, &bools)?;
+    let copy = Bytes::from_bitslice(
+        alloc,
+        BitSlice::<u16, Msb0>::from_slice(&[0xB080]).into_part(0..9),
+    )?;
+    let elements = vec![in alloc; 0xD0, 0xE0, 0xFF]?;
+    let part = Bytes::from_elements(elements, 4, 5);
+    let mut numbers = Bytes::repeat(alloc, true, 9)?;
+    numbers.extend_highest_first(0xFFFD, 4)?;
+    numbers.extend_lowest_first(0xFFFD, 4)?;
+    Ok(
+        made.as_raw_slice() == [0x0D, 0x01].as_slice()
+            && made == copy
+            && part.as_raw_slice() == [0xD0, 0xE0].as_slice()
+            && part.len() == 5
+            && numbers.as_raw_slice() == [0xFF, 0xB7, 0x01].as_slice()
+            && numbers.len() == 17,
+    )
 }
 
-/// Whether the third bit and the fourth of seven leave a sequence, and are added at its end.
-fn moves_two(bits: &mut Bytes) -> bool {
-    if bits.len() != 7 {
-        return false;
-    }
-    match bits.drain(2..4) {
-        Ok(two) => {
-            two.as_raw_slice() == [0x03].as_slice()
-                && bits.extend_from_bitslice(two.as_bitslice()).is_ok()
-        }
-        Err(_) => false,
-    }
-}
-
-/// Whether the bits from the eighth on leave a sequence, and are added at its end behind two that are moved there.
-fn moves_its_end(made: Result<Bytes, AllocError>) -> bool {
-    match made {
-        Ok(mut bits) => {
-            if bits.len() != 9 {
-                return false;
-            }
-            match bits.split_off(7) {
-                Ok(mut rest) => {
-                    rest.as_raw_slice() == [0x02].as_slice()
-                        && moves_two(&mut bits)
-                        && bits.append(&mut rest).is_ok()
-                        && rest.is_empty()
-                        && bits.as_raw_slice() == [0x61, 0x01].as_slice()
-                }
-                Err(_) => false,
-            }
-        }
-        Err(_) => false,
-    }
-}
-
-/// Whether bits are added behind others, the last one is taken, and at last all.
-fn grows_at_its_end(mut bits: Bytes) -> bool {
-    let is_done = bits.extend([true, false]).is_ok() && bits.extend_from_bools(&[true]).is_ok();
+/// Whether the bits of 1, 0, 1, 1, 0, 0, 0, 0, 1 come apart, are changed and joined again.
+fn are_moved(alloc: Global) -> Result<bool, AllocError> {
+    let bools = [true, false, true, true, false, false, false, false, true];
+    let mut bits = Bytes::from_bools(alloc, &bools)?;
+    let mut rest = bits.split_off(7)?;
+    let middle = bits.drain(2..4)?;
+    let apart = [
+        bits.as_raw_slice(),
+        rest.as_raw_slice(),
+        middle.as_raw_slice(),
+    ] == [[0x01].as_slice(), [0x02].as_slice(), [0x03].as_slice()];
+    bits.append(&mut rest)?;
+    bits.extend([true, false])?;
+    bits.extend_from_bools(&[true])?;
+    bits.extend_from_bitslice(middle.as_bitslice())?;
+    bits.set(1, true);
     let last = bits.pop();
-    let two = bits.as_raw_slice() == [0x01].as_slice();
-    bits.clear();
-    is_done && last == Some(true) && two && bits.is_empty()
+    Ok(
+        apart
+            && rest.is_empty()
+            && last == Some(true)
+            && bits.len() == 11
+            && bits.as_raw_slice() == [0xC3, 0x06].as_slice(),
+    )
 }
 
 #[test]
 fn sequences_are_as_their_lists(rt: HostRuntime) {
-    assert!(rt; has_room(Bytes::with_capacity_in(rt.alloc(), 17)));
-    assert!(rt; keeps_some(Bytes::from_bools(rt.alloc(), &NINE)));
-    assert!(rt; moves_its_end(Bytes::from_bools(rt.alloc(), &NINE)));
-    assert!(rt; grows_at_its_end(Bytes::new_in(rt.alloc())));
+    assert!(rt; at_the_ends(rt.alloc()) == Ok(true));
+    assert!(rt; retains_all_or_none(rt.alloc()) == Ok(true));
+    assert!(rt; has_room(rt.alloc()) == Ok(true));
+    assert!(rt; are_made(rt.alloc()) == Ok(true));
+    assert!(rt; are_moved(rt.alloc()) == Ok(true));
 }

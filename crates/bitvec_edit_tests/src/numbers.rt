@@ -1,12 +1,54 @@
 //! Numbers in views.
 ghost use Rattle.std.specs.Prelude.{◌≤◌};
 
-use bitvec_base::Lsb0;
+use bitvec_base::{Lsb0, Msb0};
 use bitvec_field::{BitField, BitFieldMut, Integral};
-use bitvec_slice::BitSliceMut;
+use bitvec_numbers::FieldOrder;
+use bitvec_slice::{BitSlice, BitSliceMut};
+
+/// The number of the bits 4 up to 12, `le` or else `be`.
+fn load_middle<O: FieldOrder>(bytes: &[u8; 2], le: bool) -> u8 {
+    let part = BitSlice::<u8, O>::from_slice(bytes).into_part(4..12);
+    if le {
+        part.load_le::<u8>()
+    } else {
+        part.load_be::<u8>()
+    }
+}
+
+#[test]
+fn a_number_is_read_from_either_end(rt: HostRuntime) {
+    let elements = [0xB4u8, 0x6E];
+    for (le, by_lsb0, by_msb0) in [(true, 0xEB, 0x64), (false, 0xBE, 0x46)] {
+        let found = [
+            load_middle::<Lsb0>(&elements, le),
+            load_middle::<Msb0>(&elements, le),
+        ];
+        assert!(rt; found == [by_lsb0, by_msb0]);
+    }
+    let part = BitSlice::<u8, Lsb0>::from_slice(&[0xB4]).into_part(2..6);
+    assert!(rt; (part.load_le::<u8>(), part.load_be::<u8>()) == (0xD, 0xD));
+    let two = BitSlice::<u8, Lsb0>::from_slice(&[0x06]).into_part(1..3);
+    assert!(rt; (two.load_le::<u8>(), two.load_le::<i8>()) == (3, -1));
+}
+
+/// Stores a negative number in the bits 6 up to 10, `le` or else `be`, and gives what is loaded then.
+fn store_negative(bytes: &mut [u8; 2], le: bool) -> i8 {
+    let mut part = BitSliceMut::<u8, Msb0>::from_slice_mut(bytes).into_part(6..10);
+    if le {
+        part.store_le::<i8>(-3);
+        return part.load_le::<i8>();
+    }
+    part.store_be::<i8>(-3);
+    part.load_be::<i8>()
+}
 
 #[test]
 fn a_number_comes_back(rt: HostRuntime) {
+    for (le, bytes) in [(true, [0x01, 0xC0]), (false, [0x03, 0x40])] {
+        let mut elements = [0u8, 0];
+        assert!(rt; (store_negative(&mut elements, le), elements) == (-3, bytes));
+    }
     let mut elements = [0u16, 0];
     let mut view = BitSliceMut::<u16, Lsb0>::from_slice_mut(&mut elements);
     view.store::<u32>(0x0123_4567);

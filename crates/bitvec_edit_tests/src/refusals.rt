@@ -63,6 +63,30 @@ fn clone_asks_once(refusing: &Refusing<Global>, granted: u64) -> bool {
     }
 }
 
+/// Whether a sequence was made, and has no bits and no elements.
+fn is_empty<E: Drop>(made: Result<Refused<'_>, E>) -> bool {
+    match made {
+        Ok(bits) => bits.is_empty() && bits.as_raw_slice().is_empty(),
+        Err(_) => false,
+    }
+}
+
+/// Whether a copy of no bits, and repeats of them, are made, and are empty.
+fn makes_nothing(none: &Refusing<Global>) -> [bool; 3] {
+    let empty = BitSlice::<u8, Lsb0>::empty();
+    [
+        is_empty(empty.to_bitvec(none)),
+        is_empty(empty.repeat(none, 3)),
+        is_empty(empty.repeat(none, usize::MAX)),
+    ]
+}
+
+/// Whether so many repeats of one bit ask for memory, once.
+fn bits_ask_once(refusing: &Refusing<Global>, copies: usize) -> bool {
+    let bit = BitSlice::<u8, Lsb0>::from_slice(&BYTES).into_part(4..5);
+    bit.repeat(refusing, copies).err() == Some(RepeatError::Memory) && refusing.refused() == 1
+}
+
 #[test]
 fn copies_repeats_and_clones_ask_once(rt: HostRuntime) {
     for granted in 0..3 {
@@ -70,5 +94,14 @@ fn copies_repeats_and_clones_ask_once(rt: HostRuntime) {
         let other = Refusing::new(rt.alloc(), granted);
         assert!(rt; copy_and_repeat_ask_once(&one, &other) == [true; 2]);
         assert!(rt; clone_asks_once(&Refusing::new(rt.alloc(), granted), granted));
+    }
+}
+
+#[test]
+fn no_bits_ask_for_nothing_and_the_longest_repeats_ask(rt: HostRuntime) {
+    assert!(rt; makes_nothing(&Refusing::new(rt.alloc(), 0)) == [true; 3]);
+    let most = BitSlice::<u8, Lsb0>::MAX_BITS;
+    for copies in [most.saturating_sub(7), most] {
+        assert!(rt; bits_ask_once(&Refusing::new(rt.alloc(), 0), copies));
     }
 }

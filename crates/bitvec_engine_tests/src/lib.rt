@@ -5,6 +5,8 @@
 #[cfg(test)]
 mod accessors;
 #[cfg(test)]
+mod block_costs;
+#[cfg(test)]
 mod elements;
 #[cfg(test)]
 mod orders;

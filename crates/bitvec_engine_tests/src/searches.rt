@@ -1,5 +1,5 @@
 //! Where the first bit and the last bit of a window are that is sought, and its first bits as a word: no element is loaded twice.
-use bitvec_base::{HiLo, Msb0, Window};
+use bitvec_base::{HiLo, Lsb0, Msb0, Window};
 use bitvec_engine::SliceOrder;
 use bitvec_test_support::Counted;
 use bitvec_test_support::cells::{Shared, has_window};
@@ -23,4 +23,20 @@ fn stands_at<O: SliceOrder>(bytes: &[u8; 3], index: usize) -> bool {
 fn the_first_bits_and_the_first_zero_are_found(rt: HostRuntime) {
     let bytes = [0x9F, 0xFF, 0xEF];
     assert!(rt; stands_at::<Msb0>(&bytes, 16) && stands_at::<HiLo>(&bytes, 13));
+}
+
+/// Whether the first 1 of a block of 256 bits is at this index, found by one load of each element.
+fn stands<O: SliceOrder>(elements: &[u16; 16], index: usize) -> bool {
+    let window = Window { start: 0, len: 256 };
+    let mut cells = Counted::new(Shared::new(elements));
+    has_window(&cells, window)
+        && O::find_first(&mut cells, window, true) == Some(index)
+        && cells.loads() == 16
+}
+
+#[test]
+fn a_block_is_put_in_the_order(rt: HostRuntime) {
+    let mut elements = [0u16; 16];
+    elements[5] = 0x0140;
+    assert!(rt; stands::<Lsb0>(&elements, 86) && stands::<Msb0>(&elements, 87));
 }

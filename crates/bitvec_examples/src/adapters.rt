@@ -62,6 +62,14 @@ fn ones_by_loop(bits: BitSlice<'_, u8, Msb0>) -> usize {
     ones
 }
 
+/// Whether the bits are these from the last on, where their list was made.
+fn is_backwards(alloc: Global, bits: BitSlice<'_, u8, Msb0>, wanted: &[bool]) -> bool {
+    match backwards(alloc, bits) {
+        Ok(list) => list.as_slice() == wanted,
+        Err(_) => false,
+    }
+}
+
 #[test]
 fn callers_walk_over_bits(rt: HostRuntime) {
     let view = BitSlice::<u8, Msb0>::from_slice(&[0x17]);
@@ -73,4 +81,11 @@ fn callers_walk_over_bits(rt: HostRuntime) {
     assert!(rt; (ones, parity(view)) == ([4, 4, 3], false));
     let behind = window_behind(view.into_part(2..8), 3);
     assert!(rt; [behind.start, behind.len] == [6, 2]);
+    assert!(rt;
+        is_backwards(
+            rt.alloc(),
+            view.into_part(0..4),
+            &[true, false, false, false]
+        )
+    );
 }

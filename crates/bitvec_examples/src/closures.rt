@@ -2,7 +2,7 @@
 ghost use Rattle.std.specs.Prelude.{◌≡◌, ℕ, ◌+◌, ◌*◌, ◌<◌, ◌≤◌, [], ◌∷◌, ◌++◌, map, not, replicate, slice_range, true};
 ghost use Rattle.bitvec.specs.Memory.{memory_bits};
 ghost use Rattle.bitvec.specs.Window.{write_at};
-ghost use Rattle.bitvec.specs.Views.{seen_mut};
+ghost use Rattle.bitvec.specs.Views.{seen, seen_mut};
 ghost use Rattle.bitvec.specs.Writes.{WritesBits};
 ghost use Rattle.bitvec.specs.Operators.{or_of};
 
@@ -24,6 +24,21 @@ pub fn invert_chunks<T: BitStore, O: SliceOrder>(view: &mut BitSliceMut<'_, T, O
         ≡ map not (slice_range (seen_mut view.old).bits (k * size) (k * size + size)) }
 {
     view.for_each_chunk_mut(size, |_index, piece| piece.invert());
+}
+
+/// Gives the bits `from` up to `to` the ones of a mask too.
+pub fn or_part<T: BitStore, O: SliceOrder, U: BitStore, P: BitOrder>(
+    view: &mut BitSliceMut<'_, T, O>,
+    from: usize,
+    to: usize,
+    mask: BitSlice<'_, U, P>,
+)
+    requires order { from ≤ to }
+    requires bound { to ≤ (seen_mut view.old).window.len }
+    ensures { WritesBits view.old view.new (write_at (seen_mut view.old).bits from
+        (or_of (slice_range (seen_mut view.old).bits from to) (seen mask.entry).bits)) }
+{
+    view.edit_with(from..to, move |piece| piece.or_bits(mask));
 }
 
 /// Gives the first eight bits the ones of a byte too.
@@ -48,10 +63,16 @@ fn edit_by_all(bytes: &mut [u8; 2]) {
     view.for_each_rchunk_exact_mut(5, |_index, piece| piece.invert());
 }
 
-/// Gives the first byte of a word the ones of another.
-fn or_word(words: &mut [u64; 1], byte: u8) {
+/// Gives the first byte of a word the ones of another, and its last half those of a view.
+fn or_both(words: &mut [u64; 1], byte: u8) {
     let mut view = BitSliceMut::<u64, Lsb0>::from_slice_mut(words);
     or_front(&mut view, byte);
+    or_part(
+        &mut view,
+        32,
+        64,
+        BitSlice::<u8, Lsb0>::from_slice(&[0x0F, 0x10]),
+    );
 }
 
 #[test]
@@ -60,6 +81,6 @@ fn parts_are_edited_in_place(rt: HostRuntime) {
     edit_by_all(&mut bytes);
     assert!(rt; bytes == [0x51, 0]);
     let mut words = [0x8000_0000_0000_0100u64];
-    or_word(&mut words, 0x81);
-    assert!(rt; words == [0x8000_0000_0000_0181]);
+    or_both(&mut words, 0x81);
+    assert!(rt; words == [0x8000_100F_0000_0181]);
 }

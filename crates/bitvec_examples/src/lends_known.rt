@@ -50,6 +50,36 @@ pub fn clear_first<T: BitStore, O: SliceOrder>(
     chunks.len()
 }
 
+/// How many chunks are left, once `front` were passed from the front, and `back` from the back.
+pub fn left_between<T: BitStore, O: SliceOrder>(
+    view: &mut BitSliceMut<'_, T, O>,
+    size: usize,
+    front: usize,
+    back: usize,
+) -> usize
+    requires { 0 < size }
+    ensures { result ≡ chunk_count size (seen_mut view.old).window.len - front - back }
+{
+    let mut chunks = view.chunks_mut(size);
+    chunks.pass(front);
+    chunks.pass_back(back);
+    chunks.len()
+}
+
+/// Flips the first chunk, where there is one: what is left is a walk still, which may be asked how many it has.
+pub fn flip_first<T: BitStore, O: SliceOrder>(
+    view: &mut BitSliceMut<'_, T, O>,
+    size: usize,
+) -> usize
+    requires { 0 < size }
+{
+    let mut chunks = view.chunks_mut(size);
+    if let Some(mut piece) = chunks.next_mut() {
+        piece.invert();
+    }
+    chunks.len()
+}
+
 #[test]
 fn a_bit_and_the_first_chunk_are_lent(rt: HostRuntime) {
     let mut elements = [0xFFu8, 0xF7];

@@ -17,6 +17,8 @@ mod lends_known;
 #[cfg(test)]
 mod lent_known;
 #[cfg(test)]
+mod marks;
+#[cfg(test)]
 mod parts_lent;
 #[cfg(test)]
 mod sequences;

@@ -17,8 +17,8 @@ fn fill(lent: Lent<BitSliceMut<'_, u8, Lsb0>>) -> bool {
     }
 }
 
-/// Fills chunks of three bits by each call, and tells which calls lend one.
-fn fill_chunks(bytes: &mut [u8; 2]) -> [bool; 4] {
+/// Fills chunks of three bits by each call, and tells which calls lend one, the last two from a walk that has none left.
+fn fill_chunks(bytes: &mut [u8; 2]) -> [bool; 6] {
     let mut view = BitSliceMut::<u8, Lsb0>::from_slice_mut(bytes);
     let mut chunks = view.chunks_mut(3);
     [
@@ -26,11 +26,13 @@ fn fill_chunks(bytes: &mut [u8; 2]) -> [bool; 4] {
         fill(chunks.next_back_lent()),
         fill(chunks.nth_lent(1)),
         fill(chunks.nth_back_lent(1)),
+        fill(chunks.next_lent()),
+        fill(chunks.nth_back_lent(usize::MAX)),
     ]
 }
 
-/// Sets bits by each call, and tells which calls lend one.
-fn fill_bits(bytes: &mut [u8; 1]) -> [bool; 4] {
+/// Sets bits by each call, and tells which calls lend one, the last past the end.
+fn fill_bits(bytes: &mut [u8; 1]) -> [bool; 5] {
     let mut view = BitSliceMut::<u8, Lsb0>::from_slice_mut(bytes);
     let mut bits = view.iter_mut();
     [
@@ -38,6 +40,7 @@ fn fill_bits(bytes: &mut [u8; 1]) -> [bool; 4] {
         fill(bits.next_back_lent()),
         fill(bits.nth_lent(1)),
         fill(bits.nth_back_lent(1)),
+        fill(bits.nth_lent(2)),
     ]
 }
 
@@ -45,7 +48,7 @@ fn fill_bits(bytes: &mut [u8; 1]) -> [bool; 4] {
 #[test]
 fn pieces_are_lent_from_both_ends_and_behind_others(rt: HostRuntime) {
     let (mut chunks, mut bits) = ([0x00; 2], [0x00]);
-    assert!(rt; fill_chunks(&mut chunks) == [true; 4]);
-    assert!(rt; fill_bits(&mut bits) == [true; 4]);
+    assert!(rt; fill_chunks(&mut chunks) == [true, true, true, true, false, false]);
+    assert!(rt; fill_bits(&mut bits) == [true, true, true, true, false]);
     assert!(rt; (chunks, bits) == ([0xC7, 0x8F], [0xA5]));
 }

@@ -31,10 +31,13 @@ fn from_both_ends<C: Cutting>(mut pieces: Pieces<'_, u8, Msb0, C>) -> [Read; 4] 
 #[test]
 fn pieces_in_order_and_from_both_ends(rt: HostRuntime) {
     let view = BitSlice::<u8, Msb0>::from_slice(&[0x17]);
+    let from_the_end = [Some((3, 7)), Some((3, 2)), Some((2, 0)), None];
+    assert!(rt; forward(view.rchunks(3)) == from_the_end);
     let whole = [Some((3, 7)), Some((3, 2)), None, None];
     assert!(rt; forward(view.rchunks_exact(3)) == whole);
     assert!(rt; from_both_ends(view.chunks(3)) == [Some((3, 5)), Some((2, 3)), None, None]);
     let five = view.into_part(0..5);
+    assert!(rt; forward(five.windows(3)) == [Some((3, 0)), Some((3, 1)), Some((3, 2)), None]);
     assert!(rt; from_both_ends(five.windows(3)) == [Some((3, 1)), Some((3, 2)), None, None]);
 }
 

@@ -59,6 +59,11 @@ fn splits_at_ones(rt: HostRuntime) {
     let mut pieces = view.split_inclusive(is_one);
     let places = [place(pieces.next_back()), place(pieces.next_back())];
     assert!(rt; places == [Some((7, 3)), Some((5, 2))] && pieces.next_back().is_none());
+    let none = BitSlice::<u8, Lsb0>::from_slice(&[]);
+    let mut pieces = none.split_inclusive(is_one);
+    assert!(rt; pieces.size_hint() == (0, Some(0)));
+    assert!(rt; pieces.next().is_none() && pieces.next_back().is_none());
+    assert!(rt; numbers(none.split(is_one)) == [0b1, 0, 0, 0]);
 }
 
 #[test]

@@ -15,6 +15,8 @@ mod checked_operations;
 #[cfg(test)]
 mod checked_runs;
 #[cfg(test)]
+mod field_memory;
+#[cfg(test)]
 mod field_rows;
 #[cfg(test)]
 mod program;

@@ -32,3 +32,19 @@ fn a_run_asks_once_and_changes_nothing_where_it_is_refused(rt: HostRuntime) {
         assert!(rt; refusing.bytes() == granted.min(1) * bytes);
     }
 }
+
+/// Whether a run of no steps is made, and changes nothing.
+fn replies_nothing(alloc: &Refusing<Global>) -> bool {
+    let mut elements = [0x5Au8, 0xC3];
+    match answer::<_, Lsb0, _>(alloc, &mut elements, WINDOW, &[], &[]) {
+        Ok(replies) => replies.is_empty() && elements == [0x5A, 0xC3],
+        Err(_) => false,
+    }
+}
+
+#[test]
+fn a_run_of_no_steps_asks_for_nothing(rt: HostRuntime) {
+    let refusing = Refusing::new(rt.alloc(), 0);
+    assert!(rt; replies_nothing(&refusing));
+    assert!(rt; refusing.granted_all());
+}

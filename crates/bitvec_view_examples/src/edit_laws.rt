@@ -1,7 +1,7 @@
 //! What a caller knows of a view whose bits were moved, exchanged, or edited there and back.
-ghost use Rattle.std.specs.Prelude.{◌≡◌, ◌-◌, ◌*◌, ◌<◌, ◌≤◌, length, map, slice_set};
+ghost use Rattle.std.specs.Prelude.{◌≡◌, ◌-◌, ◌*◌, ◌<◌, ◌≤◌, length, map, not, reverse, slice_set};
 ghost use Rattle.std.specs.List.{swap};
-ghost use Rattle.bitvec.specs.Lists.{copied_within, shifted_end, shifted_start};
+ghost use Rattle.bitvec.specs.Lists.{copied_within, rotated_left, shifted_end, shifted_start};
 ghost use Rattle.bitvec.specs.Memory.{memory_bits};
 ghost use Rattle.bitvec.specs.Swaps.{swapped_within};
 ghost use Rattle.bitvec.specs.Views.{seen_mut};
@@ -17,6 +17,16 @@ pub fn push_at_end<T: BitStore, O: SliceOrder>(view: &mut BitSliceMut<'_, T, O>,
 {
     view.shift_start(1);
     view.set(view.len() - 1, bit);
+}
+
+/// Puts the bits in the opposite order, flips them, and rotates them so that the one at `by` comes first.
+pub fn turn_and_flip<T: BitStore, O: SliceOrder>(view: &mut BitSliceMut<'_, T, O>, by: usize)
+    requires { by ≤ (seen_mut view.old).window.len }
+    ensures { (seen_mut view.new).bits ≡ rotated_left by (map not (reverse (seen_mut view.old).bits)) }
+{
+    view.reverse();
+    view.invert();
+    view.rotate_left(by);
 }
 
 /// Exchanges the first bit and the last.

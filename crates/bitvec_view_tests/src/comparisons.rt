@@ -1,21 +1,35 @@
 //! Equality, order and hash of views of one type.
+ghost use Rattle.std.specs.Prelude.{◌≡◌, fold};
+ghost use Rattle.std.specs.Hash.DefaultHasher as sip;
+ghost use Rattle.bitvec_slice.specs.Views.{seen};
+ghost use Rattle.bitvec_domain.specs.Feeding.{bits_fed};
 
 use bitvec_base::Lsb0;
+use bitvec_engine::SliceOrder;
 use bitvec_slice::BitSlice;
+use bitvec_store::BitStore;
 use std::alloc::AllocError;
 use std::cmp::Ordering;
 use std::hash::{DefaultHasher, Hash, Hasher};
 use std::process::Abort;
 
+/// The hash of a view: that of its bits alone.
+pub fn hash_of<T: BitStore, O: SliceOrder>(view: BitSlice<'_, T, O>) -> u64
+    ensures { result ≡ sip.finish (fold sip.write sip.initial (bits_fed (seen view.entry).bits)) }
+{
+    let mut state = DefaultHasher::new();
+    view.hash(&mut state);
+    state.finish()
+}
+
 #[test]
 fn each_bit_is_fed_without_their_number(rt: HostRuntime) {
-    let (mut by_view, mut by_bits) = (DefaultHasher::new(), DefaultHasher::new());
     let view = BitSlice::<u8, Lsb0>::from_slice(&[0b010]).into_part(0..3);
-    view.hash(&mut by_view);
-    for bit in [false, true, false] {
-        bit.hash(&mut by_bits);
-    }
-    assert!(rt; by_view.finish() == by_bits.finish());
+    let mut state = DefaultHasher::new();
+    false.hash(&mut state);
+    true.hash(&mut state);
+    false.hash(&mut state);
+    assert!(rt; hash_of(view) == state.finish());
 }
 
 /// Asserts that a view's clone has the same bits, if one was made.

@@ -3,7 +3,36 @@
 use bitvec_base::{Lsb0, Msb0};
 use bitvec_domain::Domain;
 use bitvec_edit::BitEdits;
-use bitvec_slice::{BitSlice, BitSliceMut};
+use bitvec_slice::{BitDomain, BitSlice, BitSliceMut};
+
+/// How many bits the one part has of a range that touches neither edge of its element, or else 0 and how many the
+/// head, the body and the tail have; nothing where there is no such range.
+fn cut_of(elements: &[u32; 3], from: usize, to: usize) -> Option<(usize, usize, usize, usize)> {
+    match BitSlice::<u32, Msb0>::from_slice(elements).get(from..to) {
+        Some(range) => match range.bit_domain() {
+            BitDomain::Enclave(part) => Some((part.len(), 0, 0, 0)),
+            BitDomain::Region { head, body, tail } => {
+                Some((0, head.len(), body.len(), tail.len()))
+            }
+        },
+        None => None,
+    }
+}
+
+#[test]
+fn a_range_is_cut_at_the_edges_of_elements(rt: HostRuntime) {
+    let elements = [0u32; 3];
+    for (from, to, cut) in [
+        (2, 94, (0, 30, 32, 30)),
+        (34, 62, (28, 0, 0, 0)),
+        (2, 32, (0, 30, 0, 0)),
+        (0, 30, (0, 0, 0, 30)),
+        (32, 64, (0, 0, 32, 0)),
+        (5, 5, (0, 0, 0, 0)),
+    ] {
+        assert!(rt; cut_of(&elements, from, to) == Some(cut), "{from} {to}");
+    }
+}
 
 /// Reads the part that the bits 2 up to 6 of a byte are, its value, its two indices and its mask, and then stores a
 /// value's bits, or else flips them.

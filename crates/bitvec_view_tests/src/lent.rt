@@ -40,6 +40,10 @@ fn flip_by(view: &mut BitSliceMut<'_, u8, Lsb0>, kind: usize) {
         6 => flip_seventh(view),
         7 => flip_some(view.first_lent()),
         8 => flip_some(view.last_lent()),
+        9 => flip_some(view.get_lent(2..19)),
+        10 => flip_some(view.get_lent(19..)),
+        11 => flip_some(view.get_lent(..=18)),
+        12 => flip_some(view.get_lent(18)),
         _ => flip_some(view.get_lent(7..=usize::MAX)),
     }
 }
@@ -51,7 +55,7 @@ fn flip_in(bytes: &mut [u8; 3], kind: usize) -> bool {
     view.get_lent(0..1).is_some()
 }
 
-// Each call by its number lends the bits from one place of the bytes up to another. The last lends nothing.
+// Each call by its number lends the bits from one place of the bytes up to another. The last five lend nothing.
 #[test]
 fn what_is_lent_is_flipped_and_all_else_stays(rt: HostRuntime) {
     for bytes in MEMORIES {
@@ -66,6 +70,10 @@ fn what_is_lent_is_flipped_and_all_else_stays(rt: HostRuntime) {
             (7, 3, 4),
             (8, 20, 21),
             (9, 0, 0),
+            (10, 0, 0),
+            (11, 0, 0),
+            (12, 0, 0),
+            (13, 0, 0),
         ] {
             let mut after = bytes;
             assert!(rt; flip_in(&mut after, kind), "{kind}");

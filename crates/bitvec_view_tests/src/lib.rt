@@ -13,6 +13,8 @@ mod domains;
 #[cfg(test)]
 mod ends;
 #[cfg(test)]
+mod kept;
+#[cfg(test)]
 mod lends;
 #[cfg(test)]
 mod lent;

@@ -1,9 +1,29 @@
-//! Walks over the ones and the zeros of views.
+//! Walks over the ones and the zeros of views, and what callers know of the indices that they give.
+ghost use Rattle.std.specs.Prelude.{◌≡◌, IfOk, true};
+ghost use Rattle.bitvec_base.specs.Lists.{places_of};
+ghost use Rattle.bitvec_slice.specs.Views.{seen};
 
 use bitvec_base::{Lsb0, Msb0};
+use bitvec_engine::SliceOrder;
 use bitvec_query::{IterZeros, OnesCalls};
 use bitvec_slice::{BitSlice, BitSliceMut};
+use bitvec_store::BitStore;
 use bitvec_test_support::shows;
+use std::alloc::{AllocError, Allocator};
+
+/// The indices of all ones, one by one.
+pub fn ones_in_turn<T: BitStore, O: SliceOrder, A: Allocator>(
+    alloc: A,
+    view: BitSlice<'_, T, O>,
+) -> Result<Vec<usize, A>, AllocError>
+    ensures { IfOk result (λ list. list.items ≡ places_of true (seen view.entry).bits) }
+{
+    let mut list = Vec::new(alloc);
+    for index in view.iter_ones() {
+        list.push(index)?;
+    }
+    Ok(list)
+}
 
 #[test]
 fn a_copy_goes_its_own_way(rt: HostRuntime) {
@@ -14,6 +34,21 @@ fn a_copy_goes_its_own_way(rt: HostRuntime) {
     assert!(rt; shows(rt.alloc(), &copy, "Places([5])"));
     let none: IterZeros<'_, u8, Lsb0> = Default::default();
     assert!(rt; none.len() == 0);
+}
+
+/// Whether a list was made, and has these indices.
+fn holds(list: Result<Vec<usize>, AllocError>, wanted: &[usize]) -> bool {
+    match list {
+        Ok(list) => list.as_slice() == wanted,
+        Err(_) => false,
+    }
+}
+
+#[test]
+fn a_list_of_ones(rt: HostRuntime) {
+    let elements = [0x00u8, 0x80, 0x01, 0x01];
+    let view = BitSlice::<u8, Lsb0>::from_slice(&elements).into_part(3..30);
+    assert!(rt; holds(ones_in_turn(rt.alloc(), view), &[12, 13, 21]));
 }
 
 #[test]

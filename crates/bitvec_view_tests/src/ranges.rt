@@ -1,6 +1,7 @@
 //! Indices and ranges of indices of a view, of each kind: whether it is there, and what bits it has.
 
 use bitvec_base::{Lsb0, Window};
+use bitvec_query::BitQueries;
 use bitvec_slice::{BitSlice, BitSliceIndex, BitSliceMut, Viewed, ViewedMut};
 use std::process::Abort;
 
@@ -9,31 +10,45 @@ fn five_bits(elements: &[u8; 1]) -> BitSlice<'_, u8, Lsb0> {
     BitSlice::from_slice(elements).into_part(0..5)
 }
 
-/// How many bits a range has, if it is there.
-fn len_of(part: Option<BitSlice<'_, u8, Lsb0>>) -> Option<usize> {
+/// How many bits a range has, and how many of them are 1.
+fn counts(part: Option<BitSlice<'_, u8, Lsb0>>) -> Option<(usize, usize)> {
     match part {
-        Some(part) => Some(part.len()),
+        Some(part) => Some((part.len(), part.count_ones())),
         None => None,
     }
 }
 
-/// How many bits ranges of each kind have of five, and one that isn't there.
-fn lens(five: BitSlice<'_, u8, Lsb0>) -> [Option<usize>; 7] {
-    [
-        len_of(five.get(1..3)),
-        len_of(five.get(1..=3)),
-        len_of(five.get(2..)),
-        len_of(five.get(..4)),
-        len_of(five.get(..=1)),
-        len_of(five.get(..)),
-        len_of(five.get(4..6)),
-    ]
+/// The counts of a range of five bits: one up to an index, through one, from one on, and so forth.
+fn counts_of(kind: usize, first: usize, end: usize) -> Option<(usize, usize)> {
+    let view = five_bits(&[0x12]);
+    match kind {
+        0 => counts(view.get(first..end)),
+        1 => counts(view.get(first..=end)),
+        2 => counts(view.get(first..)),
+        3 => counts(view.get(..end)),
+        4 => counts(view.get(..=end)),
+        _ => counts(view.get(..)),
+    }
 }
 
 #[test]
 fn each_kind_of_range_by_get(rt: HostRuntime) {
-    let wanted = [Some(2), Some(3), Some(3), Some(4), Some(2), Some(5), None];
-    assert!(rt; lens(five_bits(&[0x12])) == wanted);
+    for (kind, first, end, found) in [
+        (0, 5, 5, Some((0, 0))),
+        (0, 10, 12, None),
+        (1, 1, 2, Some((2, 1))),
+        (1, 5, 5, None),
+        (1, 2, 1, None),
+        (2, 2, 0, Some((3, 1))),
+        (3, 0, 4, Some((4, 1))),
+        (4, 0, 1, Some((2, 1))),
+        (5, 0, 0, Some((5, 2))),
+    ] {
+        assert!(rt;
+            counts_of(kind, first, end) == found,
+            "{kind} {first} {end}"
+        );
+    }
 }
 
 /// Asserts that five bits have a fifth, a second and a third, which reads as 0, and no sixth.
@@ -57,7 +72,7 @@ fn bits_and_ranges_are_there_by_index(rt: HostRuntime) {
         2.index_mut(view).commit(true);
     }
     let view = BitSliceMut::<u8, Lsb0>::from_slice_mut(&mut elements);
-    assert!(rt; view[0] && *view.get_unchecked(2));
+    assert!(rt; view[0] && !view[1] && *view.get_unchecked(2));
     let mut elements = [0u8; 3];
     let view = BitSliceMut::<u8, Lsb0>::from_slice_mut(&mut elements);
     assert!(rt; view.window() == Window { start: 0, len: 24 });
