@@ -16,7 +16,7 @@ use Rattle.bitvec_base.specs.WriteLaws.{length-slice_range}
 use Rattle.bitvec_store.specs.Width.{IsWidth}
 use Rattle.bitvec_words.specs.CombinedLaws.{combined-range}
 use Rattle.bitvec_words.specs.ShortWindow.{padded}
-use Rattle.bitvec_passes.proofs.FewLemmas.{word-ones}
+use Rattle.bitvec_few.proofs.FewLemmas.{word-ones}
 use Rattle.bitvec_checked.specs.Pairs.{looks_for, only_first}
 use Rattle.bitvec_checked.specs.declared.pairs.Pair.{Pair}
 use Rattle.bitvec_checked.specs.declared.pairs.Pair.TheVariants.{Both, Differing, First}
