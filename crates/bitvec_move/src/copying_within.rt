@@ -2,7 +2,7 @@
 //! is written over before it is read. All down to the loops is inlined into the function that makes
 //! the accessor, since a loop that has only a reference to it reads the slice's address again after
 //! each store.
-ghost use Rattle.std.specs.Prelude.{◌-◌, true};
+ghost use Rattle.std.specs.Prelude.{◌-◌, true, ◌≤◌};
 ghost use Rattle.bitvec_base.specs.Lists.{FitsWithin, copied_within};
 ghost use Rattle.bitvec_base.specs.Memory.{Edits, HasWindow};
 ghost use Rattle.bitvec_base.specs.Spans.{HasSpan};
@@ -49,8 +49,7 @@ fn move_window<O: WordOrder, C: Cells>(cells: &mut C, to: Window, from: Window)
     ensures cost { CostsAtMost C.CellsRead cells.old cells.new (edit_loads C.Elem.BITS true to.len) (write_stores C.Elem.BITS true to.len) }
 {
     if is_few(to.len) {
-        let word = load_parts::<O, C>(cells, from);
-        store_parts::<O, C>(cells, to, word);
+        move_few::<O, C>(cells, to, from);
         return;
     }
     if to.start <= from.start {
@@ -58,4 +57,16 @@ fn move_window<O: WordOrder, C: Cells>(cells: &mut C, to: Window, from: Window)
     } else {
         move_to::<O, C, true>(cells, to, from);
     }
+}
+
+/// [`move_window`] of at most 64 bits. It stands out of line, so that the loops over more bits stay small enough to be inlined.
+#[inline(never)]
+fn move_few<O: WordOrder, C: Cells>(cells: &mut C, to: Window, from: Window)
+    requires span { HasSpan C.Elem.BITS (C.numbers cells.old) (C.numbers cells.old) to from }
+    requires few { to.len ≤ 64 }
+    ensures writes { Copies C.Elem.BITS O.at (C.numbers cells.old) (C.numbers cells.new) to (C.numbers cells.old) from }
+    ensures cost { CostsAtMost C.CellsRead cells.old cells.new (edit_loads C.Elem.BITS true to.len) (write_stores C.Elem.BITS true to.len) }
+{
+    let word = load_parts::<O, C>(cells, from);
+    store_parts::<O, C>(cells, to, word);
 }
