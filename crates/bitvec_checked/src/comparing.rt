@@ -24,17 +24,13 @@ pub fn equal<T: BitStore>(
 ) -> u32
     ensures { AsksBeside order T.BITS T.value (Eq (bits_from right_start right_len)) bit_of (bits_from start len) elements.now right.now answer.old answer.new result }
 {
-    let window = Window { start, len };
-    let right_window = Window {
-        start: right_start,
-        len: right_len,
-    };
-    let status = windows_status(order, elements, window, right, right_window);
-    tested!(
-        status,
+    tested_beside!(
+        windows_status,
         *answer,
         order,
-        eq_blocks_in::<T>(elements, window, right, right_window)
+        elements[start, len],
+        right[right_start, right_len],
+        eq_blocks_in::<T>
     )
 }
 

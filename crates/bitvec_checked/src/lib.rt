@@ -29,6 +29,29 @@ macro_rules! tested {
     }};
 }
 
+/// Tests two windows, each of a slice by its start and length, and calls a function of them under the order of a number where
+/// the tests have passed. Behind the function stand its other arguments. A place in front of the order gets the answer.
+macro_rules! tested_beside {
+    ($test:ident, $(*$answer:ident,)? $order:ident, $elements:ident[$start:ident, $len:ident], $right:ident[$right_start:ident, $right_len:ident],
+        $function:ident::<$element:ty> $(, $argument:expr)*) => {{
+        let window = Window {
+            start: $start,
+            len: $len,
+        };
+        let right_window = Window {
+            start: $right_start,
+            len: $right_len,
+        };
+        let status = $test($order, $elements, window, $right, right_window);
+        tested!(
+            status,
+            $(*$answer,)?
+            $order,
+            $function::<$element>($elements, window, $right, right_window $(, $argument)*)
+        )
+    }};
+}
+
 mod bits;
 mod comparing;
 mod counting;

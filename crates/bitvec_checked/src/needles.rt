@@ -26,17 +26,13 @@ pub fn starts_with<T: BitStore>(
 ) -> u32
     ensures { AsksBeside order T.BITS T.value (StartsWith (bits_from right_start right_len)) bit_of (bits_from start len) elements.now right.now answer.old answer.new result }
 {
-    let window = Window { start, len };
-    let right_window = Window {
-        start: right_start,
-        len: right_len,
-    };
-    let status = windows_status(order, elements, window, right, right_window);
-    tested!(
-        status,
+    tested_beside!(
+        windows_status,
         *answer,
         order,
-        starts_with_in::<T>(elements, window, right, right_window)
+        elements[start, len],
+        right[right_start, right_len],
+        starts_with_in::<T>
     )
 }
 
@@ -73,17 +69,13 @@ pub fn ends_with<T: BitStore>(
 ) -> u32
     ensures { AsksBeside order T.BITS T.value (EndsWith (bits_from right_start right_len)) bit_of (bits_from start len) elements.now right.now answer.old answer.new result }
 {
-    let window = Window { start, len };
-    let right_window = Window {
-        start: right_start,
-        len: right_len,
-    };
-    let status = windows_status(order, elements, window, right, right_window);
-    tested!(
-        status,
+    tested_beside!(
+        windows_status,
         *answer,
         order,
-        ends_with_in::<T>(elements, window, right, right_window)
+        elements[start, len],
+        right[right_start, right_len],
+        ends_with_in::<T>
     )
 }
 
@@ -120,17 +112,13 @@ pub fn contains<T: BitStore>(
 ) -> u32
     ensures { AsksBeside order T.BITS T.value (Contains (bits_from right_start right_len)) bit_of (bits_from start len) elements.now right.now answer.old answer.new result }
 {
-    let window = Window { start, len };
-    let right_window = Window {
-        start: right_start,
-        len: right_len,
-    };
-    let status = windows_status(order, elements, window, right, right_window);
-    tested!(
-        status,
+    tested_beside!(
+        windows_status,
         *answer,
         order,
-        contains_in::<T>(elements, window, right, right_window)
+        elements[start, len],
+        right[right_start, right_len],
+        contains_in::<T>
     )
 }
 

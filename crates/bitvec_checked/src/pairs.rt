@@ -27,17 +27,14 @@ pub fn count_and<T: BitStore>(
 ) -> u32
     ensures { Tells order T.BITS T.value (pairs_where ◌&&◌) (bits_from start len) (bits_from right_start right_len) elements.now right.now pairs.old pairs.new result }
 {
-    let window = Window { start, len };
-    let right_window = Window {
-        start: right_start,
-        len: right_len,
-    };
-    let status = windows_status(order, elements, window, right, right_window);
-    tested!(
-        status,
+    tested_beside!(
+        windows_status,
         *pairs,
         order,
-        count_pairs_in::<T>(elements, window, right, right_window, Pair::Both)
+        elements[start, len],
+        right[right_start, right_len],
+        count_pairs_in::<T>,
+        Pair::Both
     )
 }
 
@@ -54,17 +51,14 @@ pub fn count_xor<T: BitStore>(
 ) -> u32
     ensures { Tells order T.BITS T.value (pairs_where differs) (bits_from start len) (bits_from right_start right_len) elements.now right.now pairs.old pairs.new result }
 {
-    let window = Window { start, len };
-    let right_window = Window {
-        start: right_start,
-        len: right_len,
-    };
-    let status = windows_status(order, elements, window, right, right_window);
-    tested!(
-        status,
+    tested_beside!(
+        windows_status,
         *pairs,
         order,
-        count_pairs_in::<T>(elements, window, right, right_window, Pair::Differing)
+        elements[start, len],
+        right[right_start, right_len],
+        count_pairs_in::<T>,
+        Pair::Differing
     )
 }
 
@@ -81,17 +75,14 @@ pub fn disjoint<T: BitStore>(
 ) -> u32
     ensures { Tells order T.BITS T.value (no_pair_where ◌&&◌) (bits_from start len) (bits_from right_start right_len) elements.now right.now answer.old answer.new result }
 {
-    let window = Window { start, len };
-    let right_window = Window {
-        start: right_start,
-        len: right_len,
-    };
-    let status = windows_status(order, elements, window, right, right_window);
-    tested!(
-        status,
+    tested_beside!(
+        windows_status,
         *answer,
         order,
-        no_pair_in::<T>(elements, window, right, right_window, Pair::Both)
+        elements[start, len],
+        right[right_start, right_len],
+        no_pair_in::<T>,
+        Pair::Both
     )
 }
 
@@ -108,17 +99,14 @@ pub fn subset<T: BitStore>(
 ) -> u32
     ensures { Tells order T.BITS T.value (no_pair_where only_first) (bits_from start len) (bits_from right_start right_len) elements.now right.now answer.old answer.new result }
 {
-    let window = Window { start, len };
-    let right_window = Window {
-        start: right_start,
-        len: right_len,
-    };
-    let status = windows_status(order, elements, window, right, right_window);
-    tested!(
-        status,
+    tested_beside!(
+        windows_status,
         *answer,
         order,
-        no_pair_in::<T>(elements, window, right, right_window, Pair::First)
+        elements[start, len],
+        right[right_start, right_len],
+        no_pair_in::<T>,
+        Pair::First
     )
 }
 

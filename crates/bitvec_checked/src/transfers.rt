@@ -22,16 +22,12 @@ pub fn copy<T: BitStore>(
 ) -> u32
     ensures { EditsBeside order T.BITS T.value (CopyFrom (bits_from right_start right_len)) (bits_from start len) elements.old elements.new right.now result }
 {
-    let window = Window { start, len };
-    let right_window = Window {
-        start: right_start,
-        len: right_len,
-    };
-    let status = equal_windows_status(order, elements, window, right, right_window);
-    tested!(
-        status,
+    tested_beside!(
+        equal_windows_status,
         order,
-        copy_from_long_block_in::<T>(elements, window, right, right_window)
+        elements[start, len],
+        right[right_start, right_len],
+        copy_from_long_block_in::<T>
     )
 }
 
@@ -47,16 +43,13 @@ pub fn and<T: BitStore>(
 ) -> u32
     ensures { EditsBeside order T.BITS T.value (And (bits_from right_start right_len)) (bits_from start len) elements.old elements.new right.now result }
 {
-    let window = Window { start, len };
-    let right_window = Window {
-        start: right_start,
-        len: right_len,
-    };
-    let status = windows_status(order, elements, window, right, right_window);
-    tested!(
-        status,
+    tested_beside!(
+        windows_status,
         order,
-        combine_block_in::<T>(elements, window, right, right_window, BitOp::And)
+        elements[start, len],
+        right[right_start, right_len],
+        combine_block_in::<T>,
+        BitOp::And
     )
 }
 
@@ -72,16 +65,13 @@ pub fn or<T: BitStore>(
 ) -> u32
     ensures { EditsBeside order T.BITS T.value (Or (bits_from right_start right_len)) (bits_from start len) elements.old elements.new right.now result }
 {
-    let window = Window { start, len };
-    let right_window = Window {
-        start: right_start,
-        len: right_len,
-    };
-    let status = windows_status(order, elements, window, right, right_window);
-    tested!(
-        status,
+    tested_beside!(
+        windows_status,
         order,
-        combine_block_in::<T>(elements, window, right, right_window, BitOp::Or)
+        elements[start, len],
+        right[right_start, right_len],
+        combine_block_in::<T>,
+        BitOp::Or
     )
 }
 
@@ -98,16 +88,13 @@ pub fn xor<T: BitStore>(
 ) -> u32
     ensures { EditsBeside order T.BITS T.value (Xor (bits_from right_start right_len)) (bits_from start len) elements.old elements.new right.now result }
 {
-    let window = Window { start, len };
-    let right_window = Window {
-        start: right_start,
-        len: right_len,
-    };
-    let status = windows_status(order, elements, window, right, right_window);
-    tested!(
-        status,
+    tested_beside!(
+        windows_status,
         order,
-        combine_block_in::<T>(elements, window, right, right_window, BitOp::Xor)
+        elements[start, len],
+        right[right_start, right_len],
+        combine_block_in::<T>,
+        BitOp::Xor
     )
 }
 
@@ -123,16 +110,13 @@ pub fn and_not<T: BitStore>(
 ) -> u32
     ensures { Joins order T.BITS T.value only_first (bits_from start len) (bits_from right_start right_len) elements.old elements.new right.now result }
 {
-    let window = Window { start, len };
-    let right_window = Window {
-        start: right_start,
-        len: right_len,
-    };
-    let status = windows_status(order, elements, window, right, right_window);
-    tested!(
-        status,
+    tested_beside!(
+        windows_status,
         order,
-        combine_block_in::<T>(elements, window, right, right_window, BitOp::AndNot)
+        elements[start, len],
+        right[right_start, right_len],
+        combine_block_in::<T>,
+        BitOp::AndNot
     )
 }
 
@@ -148,15 +132,11 @@ pub fn swap<T: BitStore>(
 ) -> u32
     ensures { Swaps order T.BITS T.value (bits_from start len) (bits_from right_start right_len) elements.old elements.new right.old right.new result }
 {
-    let window = Window { start, len };
-    let right_window = Window {
-        start: right_start,
-        len: right_len,
-    };
-    let status = equal_windows_status(order, elements, window, right, right_window);
-    tested!(
-        status,
+    tested_beside!(
+        equal_windows_status,
         order,
-        swap_with_block_in::<T>(elements, window, right, right_window)
+        elements[start, len],
+        right[right_start, right_len],
+        swap_with_block_in::<T>
     )
 }
