@@ -1,15 +1,14 @@
 -- Where a needle stands, by the words of the list and its own first bits.
-use Rattle.std.specs.Prelude.{◌≡◌, ℕ, ◌+◌, ◌-◌, ◌<◌, ◌≤◌, Bool, true, false, List, ◌++◌, length, slice_index_or, slice_range}
+use Rattle.std.specs.Prelude.{◌≡◌, ℕ, ◌+◌, ◌-◌, ◌<◌, ◌≤◌, Bool, true, false, List, length, slice_index_or, slice_range}
 use Rattle.std.proofs.Common.{arith, sym, ◌∙◌, ap, ⊎_elim}
 use Rattle.std.proofs.lemmas.Bool.{cases_lt, false_from_ne_true}
-use Rattle.std.proofs.lemmas.List.{get_or_append_left, get_or-append_right}
 use Rattle.bitvec_base.specs.Lists.{stands_at}
 use Rattle.bitvec_base.specs.ListsLaws.{same_bits-decides, stands_at-fits, stands_at-long}
 use Rattle.bitvec_base.specs.Memory.{element_bits}
-use Rattle.bitvec_base.specs.MemoryLaws.{length-element_bits}
 use Rattle.bitvec_base.specs.WriteLaws.{get-slice_range}
 use Rattle.bitvec_elements.specs.BitsFrom.{HasBitsFrom}
 use Rattle.bitvec_within.specs.Candidates.{HasStarts}
+use Rattle.bitvec_within.proofs.CandidateLemmas.{beside}
 
 -- where a list stands, its bits are
 agrees : (part list : List Bool) (k : ℕ) → stands_at part list k ≡ true → (j : ℕ) → j < length part → slice_index_or list (k + j) false ≡ slice_index_or part j false
@@ -26,18 +25,6 @@ begins_inside part list k there =
 
 module _ (at : ℕ → ℕ → ℕ) (list part : List Bool) (low high needle starts count from : ℕ) (low-has : HasBitsFrom at low list from) (high-has : HasBitsFrom at high list (from + 64)) (needle-has : HasBitsFrom at needle part 0)
     (few : count ≤ length part) (most : count ≤ 64) (has : HasStarts at low high needle count starts) where
-  -- two words have the bits of the list
-  beside : (i : ℕ) → i < 128 → slice_index_or (element_bits 64 at low ++ element_bits 64 at high) i false ≡ slice_index_or list (from + i) false
-  beside i below =
-      let long = length-element_bits 64 at low in
-      ⊎_elim (λ (first : i < 64). get_or_append_left (element_bits 64 at low) (element_bits 64 at high) false i (omega arith) ∙ low-has i first)
-      (λ (second : 64 ≤ i).
-      let place : from + 64 + (i - 64) ≡ from + i = omega arith in
-      get_or-append_right (element_bits 64 at low) (element_bits 64 at high) 64 i false long second
-      ∙ high-has (i - 64) (omega arith)
-      ∙ ap (λ (n : ℕ). slice_index_or list n false) place)
-      (cases_lt i 64)
-
   -- it stands at none of the next 64 places, if at none of those that are left
   pub absent-next : ((i : ℕ) → i < 64 → slice_index_or (element_bits 64 at starts) i false ≡ true → stands_at part list (from + i) ≡ false) → ((k : ℕ) → k < from → stands_at part list k ≡ false) → (k : ℕ) → k < from + 64 → stands_at part list k ≡ false
   absent-next absent before k below =
@@ -48,7 +35,7 @@ module _ (at : ℕ → ℕ → ℕ) (list part : List Bool) (low high needle sta
       let left = has (k - from) (omega arith) (λ j inside.
       let sum : from + (k - from + j) ≡ k + j = omega arith in
       let first : 0 + j ≡ j = omega arith in
-      beside (k - from + j) (omega arith)
+      beside at list low high from low-has high-has (k - from + j) (omega arith)
       ∙ ap (λ (n : ℕ). slice_index_or list n false) sum
       ∙ agrees part list k there j (omega arith)
       ∙ ap (λ (n : ℕ). slice_index_or part n false) (sym first)

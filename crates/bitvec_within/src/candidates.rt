@@ -6,7 +6,8 @@ ghost use Rattle.bitvec_within.specs.Candidates.{HasStarts};
 use bitvec_base::BitOrder;
 use bitvec_words::{WordOrder, joined, toward_start};
 
-/// How many bits of the needle [`candidates`] compares before it asks whether any place is left.
+/// How many bits of the needle [`candidates`] compares before it asks whether any place is left: in a
+/// row, with no jump in between.
 const PASSES_PER_TEST: usize = 8;
 
 /// A word with a 1 at each of 64 indices from which two words side by side have the first `count`
@@ -16,16 +17,51 @@ pub(crate) fn candidates<W: WordOrder>(low: u64, high: u64, needle: u64, count: 
     requires { count ≤ 64 }
     ensures { HasStarts W.at low high needle count result }
 {
+    if count < PASSES_PER_TEST {
+        return few_candidates::<W>(low, high, needle, count);
+    }
+    let starts = few_candidates::<W>(low, high, needle, PASSES_PER_TEST);
+    if starts == 0 {
+        return starts;
+    }
+    candidates_by_groups::<W>(low, high, needle, count)
+}
+
+/// As [`candidates`], for the few words at which a place is left after [`PASSES_PER_TEST`] bits. It is not
+/// inlined, so that the search has few values to keep.
+#[inline(never)]
+fn candidates_by_groups<W: WordOrder>(low: u64, high: u64, needle: u64, count: usize) -> u64
+    requires { count ≤ 64 }
+    ensures { HasStarts W.at low high needle count result }
+{
     let mut starts = u64::MAX;
     let (mut front, mut behind, mut wanted) = (low, high, needle);
-    for step in 0..count {
-        if step % PASSES_PER_TEST == 0 && starts == 0 {
+    let mut step = 0;
+    while step + PASSES_PER_TEST <= count {
+        starts &= few_candidates::<W>(front, behind, wanted, PASSES_PER_TEST);
+        if starts == 0 {
             return starts;
         }
+        front = joined::<W, u64>(front, behind, PASSES_PER_TEST);
+        behind = toward_start::<W, u64>(behind, PASSES_PER_TEST);
+        wanted = toward_start::<W, u64>(wanted, PASSES_PER_TEST);
+        step += PASSES_PER_TEST;
+    }
+    starts & few_candidates::<W>(front, behind, wanted, count - step)
+}
+
+/// As [`candidates`], with no test in between. Condition: `count` is below 64.
+#[inline(always)]
+fn few_candidates<W: WordOrder>(low: u64, high: u64, needle: u64, count: usize) -> u64
+    requires { count < 64 }
+    ensures { HasStarts W.at low high needle count result }
+{
+    let mut starts = u64::MAX;
+    let (mut front, mut wanted) = (low, needle);
+    for step in 0..count {
         starts &= alike::<W>(front, wanted);
-        front = joined::<W, u64>(front, behind, 1);
-        behind = toward_start::<W, u64>(behind, 1);
-        wanted = toward_start::<W, u64>(wanted, 1);
+        front = joined::<W, u64>(low, high, step + 1);
+        wanted = toward_start::<W, u64>(needle, step + 1);
     }
     starts
 }
