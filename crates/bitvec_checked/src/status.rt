@@ -1,5 +1,5 @@
 //! Whether a call is carried out, and if not, why: its status, a number.
-ghost use Rattle.std.specs.Prelude.{◌≡◌, ◌*◌, ◌<◌, ◌≤◌, [], false, length, map, replicate};
+ghost use Rattle.std.specs.Prelude.{◌≡◌, ◌*◌, ◌<◌, ◌≤◌, ◌↔◌, IsTrue, [], false, length, map, replicate};
 ghost use Rattle.std.specs.Int.{div_ceil};
 ghost use Rattle.bitvec_base.specs.Lists.{FitsWithin};
 ghost use Rattle.bitvec_base.specs.Memory.{FitsMaxBits, HasWindow};
@@ -9,7 +9,7 @@ ghost use Rattle.bitvec_commands.specs.declared.command.Op.TheVariants.{CopyFrom
 ghost use Rattle.bitvec_checked.specs.Statuses.{end_status, memories_status, or_next, refusal_status, status_beside, step_status, steps_status, width_status, window_status};
 
 use bitvec_base::Window;
-use bitvec_cells::{CellsRead, Shared, fits_max_bits, has_window};
+use bitvec_cells::{Shared, fits_max_bits};
 use bitvec_commands::Refusal;
 use bitvec_store::BitStore;
 
@@ -46,6 +46,16 @@ fn unless(test: bool, refusal: Refusal) -> u32
     if test { DONE } else { refusal as u32 }
 }
 
+/// Whether a window lies in a memory of at most `MAX_BITS` bits, by one comparison.
+#[inline(always)]
+fn lies_in<T: BitStore>(window: Window, elements: &[T]) -> bool
+    requires { FitsMaxBits T.BITS (map T.value elements.now) }
+    ensures { IsTrue result ↔ HasWindow T.BITS (map T.value elements.now) window }
+{
+    let bits = elements.len() * T::BITS as usize;
+    window.start.saturating_add(window.len) <= bits
+}
+
 /// What a call on one memory tests.
 #[inline(always)]
 pub fn window_status<T: BitStore>(order: u32, elements: &[T], window: Window) -> u32
@@ -59,7 +69,7 @@ pub fn window_status<T: BitStore>(order: u32, elements: &[T], window: Window) ->
     } else if !fits_max_bits(&cells) {
         SIZE
     } else {
-        unless(has_window(&cells, window), Refusal::Range)
+        unless(lies_in::<T>(window, elements), Refusal::Range)
     }
 }
 
@@ -78,7 +88,7 @@ pub fn memories_status<T: BitStore>(order: u32, elements: &[T], window: Window, 
     } else if !fits_max_bits(&cells) || !fits_max_bits(&beside) {
         SIZE
     } else {
-        unless(has_window(&cells, window), Refusal::Range)
+        unless(lies_in::<T>(window, elements), Refusal::Range)
     }
 }
 
@@ -101,10 +111,7 @@ pub(crate) fn windows_status<T: BitStore>(
     if status != DONE {
         return status;
     }
-    unless(
-        has_window(&Shared::new(right), right_window),
-        Refusal::Right,
-    )
+    unless(lies_in::<T>(right_window, right), Refusal::Right)
 }
 
 /// The status of a call that needs two windows of one length.
