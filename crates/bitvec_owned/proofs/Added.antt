@@ -136,3 +136,7 @@ pub granted : {E : Type 0} (result : Result (Unit {0}) E) (bits more same : List
     → bits ≡ (if is_ok result then more else same) → bits ≡ more
 granted (Ok u) bits more same capacity n fits full is = is
 granted (Err e) bits more same capacity n fits full is = absurd (omega (arith, full, fits))
+
+-- what is held has room where more has
+pub less-room : (len held room capacity : ℕ) → held ≤ room → len + room ≤ capacity → len + held ≤ capacity
+less-room len held room capacity few there = omega arith

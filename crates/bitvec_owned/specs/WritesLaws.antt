@@ -78,6 +78,10 @@ module _ {T O A : Type 0} {t : Store T} {o : Order O} (some : 0 < t.BITS) (v : B
   pub places : v.head + v.len ≤ t.BITS * vec_len v.elements
   places = let rounded = div_ceil_times (v.head + v.len) t.BITS some in rw v.touched (omega arith)
 
+  -- An owned sequence ends at most at the place `max_bits`.
+  pub ends : v.head + v.len ≤ max_bits
+  ends = let all = places in let fits = v.bounded in omega arith
+
   -- The bits of an owned sequence lie in its elements.
   pub inside : v.head + v.len ≤ t.BITS * length v.elements.items
   inside = rw (sym v.elements.ok.0) places

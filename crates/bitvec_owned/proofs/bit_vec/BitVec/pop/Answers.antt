@@ -9,7 +9,7 @@ use Rattle.bitvec_owned.proofs.FrontLists.{one-set, with-last}
 use Rattle.bitvec_owned.proofs.Fronts.{has-window, taken, taken-around, taken-bits}
 use Rattle.bitvec_owned.proofs.Rooms.{more-touched}
 use Rattle.bitvec_owned.specs.Owned.{owned, usable_bits}
-use Rattle.bitvec_owned.specs.WritesLaws.{inside, length-owned, places}
+use Rattle.bitvec_owned.specs.WritesLaws.{ends, inside, length-owned, places}
 use Rattle.bitvec_owned.proofs.bit_vec.BitVec.pop.Goals as goal
 
 pub returns-then-self-eq0-clause-some : goal.returns-then-self-eq0-clause-some
@@ -18,7 +18,7 @@ returns-then-self-eq0-clause-some g c =
     (λ none. cc, λ some. absurd (omega arith))
 
 pub overflow_add-end : goal.overflow_add-end
-overflow_add-end g c = let all = places (width_some _ g.met.T.BitStore.width_law) c.args.self.now in omega (arith, c.args.self.now.bounded)
+overflow_add-end g c = omega (arith, ends (width_some _ g.met.T.BitStore.width_law) c.args.self.now)
 
 pub replace_in-bit-requires-clause-window : goal.replace_in-bit-requires-clause-window
 replace_in-bit-requires-clause-window g c =

@@ -5,14 +5,14 @@ use Rattle.bitvec_slice.specs.Seen.{shown}
 use Rattle.bitvec_store.specs.WidthLaws.{width_some}
 use Rattle.bitvec_owned.specs.Owned.{usable_bits}
 use Rattle.bitvec_owned.proofs.Rooms.{few-fit, fewest, more-touched, past-fit, refused, usable-fits, usable-more, usable-most}
-use Rattle.bitvec_owned.specs.WritesLaws.{held, held-usable, places}
+use Rattle.bitvec_owned.specs.WritesLaws.{ends, held, held-usable}
 use Rattle.bitvec_owned.proofs.bit_vec.BitVec.reserve.Goals as goal
 
 pub overflow_add-end : goal.overflow_add-end
-overflow_add-end g c =
-    let old = c.args.self.now in
-    let inside = places (width_some _ g.met.T.BitStore.width_law) old in
-    omega (arith, old.bounded)
+overflow_add-end g c = omega (arith, ends (width_some _ g.met.T.BitStore.width_law) c.args.self.now)
+
+pub overflow_add-end-2 : goal.overflow_add-end-2
+overflow_add-end-2 g c = omega (arith, ends (width_some _ g.met.T.BitStore.width_law) c.args.self.now)
 
 pub returns-then-additional-gt-MAX_BITS-clause-full : goal.returns-then-additional-gt-MAX_BITS-clause-full
 returns-then-additional-gt-MAX_BITS-clause-full g c =

@@ -4,13 +4,16 @@ use Rattle.bitvec_store.specs.WidthLaws.{width_some}
 use Rattle.bitvec_owned.proofs.FrontLists.{resized-fewer, resized-more}
 use Rattle.bitvec_owned.proofs.Fronts.{added-around, added-bits}
 use Rattle.bitvec_owned.specs.Owned.{owned}
-use Rattle.bitvec_owned.specs.WritesLaws.{inside, length-owned}
+use Rattle.bitvec_owned.specs.WritesLaws.{ends, inside, length-owned}
 use Rattle.bitvec_owned.proofs.bit_vec.BitVec.resize.Goals as goal
 
 pub returns-then-len-self-clause-bits : goal.returns-then-len-self-clause-bits
 returns-then-len-self-clause-bits g c =
     let long = length-owned (width_some _ g.met.T.BitStore.width_law) c.args.self.now in
     c.truncate.ensures.bits ∙ sym (resized-fewer (owned c.args.self.now).bits c.args.len c.args.bit (omega arith))
+
+pub overflow_add-end : goal.overflow_add-end
+overflow_add-end g c = omega (arith, ends (width_some _ g.met.T.BitStore.width_law) c.args.self.now)
 
 pub returns-clause-bits : goal.returns-clause-bits
 returns-clause-bits g c =

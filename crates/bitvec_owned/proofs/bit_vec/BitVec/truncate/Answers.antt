@@ -3,16 +3,19 @@ use Rattle.std.proofs.lemmas.List.{take_all}
 use Rattle.bitvec_store.specs.WidthLaws.{width_some}
 use Rattle.bitvec_copying.specs.ElementsLaws.{refilled}
 use Rattle.bitvec_owned.proofs.Fronts.{cut, taken-around, taken-bits}
-use Rattle.bitvec_owned.proofs.Rooms.{cut-fits, touched-inside}
+use Rattle.bitvec_owned.proofs.Rooms.{cut-fits}
 use Rattle.bitvec_owned.specs.Owned.{owned, usable_bits}
-use Rattle.bitvec_owned.specs.WritesLaws.{inside, length-owned}
+use Rattle.bitvec_owned.specs.WritesLaws.{ends, inside, length-owned, places}
 use Rattle.bitvec_owned.proofs.bit_vec.BitVec.truncate.Goals as goal
+
+pub overflow_add-end : goal.overflow_add-end
+overflow_add-end g c = omega (arith, ends (width_some _ g.met.T.BitStore.width_law) c.args.self.now)
 
 pub fill_rest-requires : goal.fill_rest-requires
 fill_rest-requires g c =
     let old = c.args.self.now in
     let some = width_some _ g.met.T.BitStore.width_law in
-    let all = touched-inside _ some (old.head + old.len) _ old.touched in
+    let all = places some old in
     let left = cut-fits _ some (old.head + c.args.len) _ _ _ (omega arith) old.bounded c.touched_by.ensures c.truncate.ensures.len in
     rw c.as_mut_slice.ensures.len (record { inside = left.1; bounded = left.2 })
 
@@ -20,7 +23,7 @@ pub invariant_of-self : goal.invariant_of-self
 invariant_of-self g c =
     let old = c.args.self.now in
     let some = width_some _ g.met.T.BitStore.width_law in
-    let all = touched-inside _ some (old.head + old.len) _ old.touched in
+    let all = places some old in
     let left = cut-fits _ some (old.head + c.args.len) _ _ _ (omega arith) old.bounded c.touched_by.ensures c.truncate.ensures.len in
     record { begins = old.begins; touched = left.0; bounded = left.2 }
 

@@ -1,6 +1,6 @@
 use Rattle.std.proofs.Common.{◌+◌, ◌≤◌, ◌<◌, ◌∙◌, [], arith, refl, sym, subst}
 use Rattle.bitvec_slice.specs.Seen.{Seen}
-use Rattle.bitvec_owned.proofs.Added.{Held, first-bit, held-added, held-more, held-none}
+use Rattle.bitvec_owned.proofs.Added.{Held, first-bit, held-added, held-more, held-none, less-room}
 use Rattle.bitvec_owned.specs.Owned.{bit_capacity, owned}
 use Rattle.bitvec_owned.proofs.growing.walking.BitVecExtendBool.extend.Goals.{then-held-room+in_ok-reserve, else-held-room}
 use Rattle.bitvec_owned.proofs.growing.walking.BitVecExtendBool.extend.Goals as goal
@@ -15,6 +15,12 @@ loop-bit-init g c =
       capacity = omega arith;
       held = held-none g.T.BitStore.BITS now now [] 0 0;
     }
+
+pub extend_from_word-requires-clause-room : goal.extend_from_word-requires-clause-room
+extend_from_word-requires-clause-room g c = less-room _ _ _ _ c.loop-bit.invariant.few c.loop-bit.invariant.there
+
+pub extend_from_word-requires-2-clause-room : goal.extend_from_word-requires-2-clause-room
+extend_from_word-requires-2-clause-room g c = less-room _ _ _ _ c.loop-bit.invariant.few c.loop-bit.invariant.there
 
 pub loop-bit-preserved : goal.loop-bit-preserved
 loop-bit-preserved g c =
