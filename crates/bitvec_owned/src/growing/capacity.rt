@@ -6,7 +6,7 @@ ghost use Rattle.bitvec_owned.specs.Owned.{bit_capacity, owned};
 
 use crate::BitVec;
 use crate::counts::{bits_of, most_elements, room_for};
-use bitvec_base::{BitOrder, MAX_BITS};
+use bitvec_base::BitOrder;
 use bitvec_store::BitStore;
 use std::alloc::{AllocError, Allocator};
 
@@ -56,10 +56,7 @@ impl<T: BitStore, O: BitOrder, A: Allocator> BitVec<T, O, A> {
         ensures err { OnErr result (bit_capacity self.new ≡ bit_capacity self.old) }
     {
         let end = self.head + self.len;
-        if additional > MAX_BITS {
-            return Err(AllocError);
-        }
-        let count = room_for::<T>(end + additional)?;
+        let count = room_for::<T>(end.saturating_add(additional))?;
         self.elements.reserve(count - self.elements.len())
     }
 

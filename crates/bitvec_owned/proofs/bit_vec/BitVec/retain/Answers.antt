@@ -27,7 +27,6 @@ returns g c =
     let left = c.truncate.ensures.bits ∙ ap (take c.move_kept-kept.result) written.bits in
     let size = length-owned some c.truncate.new.self in
     let few = ap length left ∙ length-take c.move_kept-kept.result wrote.0 in
-    let inside = c.move_kept-kept.ensures.bound in
     record {
       bits = subst (Retains g.P.FnMut c.args.pred (owned old).bits) (sym left) (rw c.as_raw_mut_slice.ensures.elements at wrote.2);
       bound = omega arith;

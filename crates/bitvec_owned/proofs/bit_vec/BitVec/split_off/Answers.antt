@@ -6,5 +6,4 @@ use Rattle.bitvec_owned.proofs.bit_vec.BitVec.split_off.Goals as goal
 
 pub returns-clause-rest : goal.returns-clause-rest
 returns-clause-rest g c =
-    let long = c.len.ensures.value in
     subst (λ (l : List Bool). Holds g.T.BitStore.BITS l 0 (owned c.in_ok-rest.rest)) (range-to_end (owned c.args.self.now).bits c.args.at c.len.result (omega arith)) c.in_ok-rest.ensures.copy

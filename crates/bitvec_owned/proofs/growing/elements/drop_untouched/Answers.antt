@@ -9,7 +9,6 @@ pub returns-then-phase_of-eq0 : goal.returns-then-phase_of-eq0
 returns-then-phase_of-eq0 g c =
     let next = next-touched _ (width_some _ g.met.T.BitStore.width_law) c.args.end (sym c.phase_of.ensures ∙ c.if-phase_of-eq0.true) in
     let fewer = c.take_last.new.self in
-    let touched = c.requires.touched in let less = c.take_last.ensures.len in
     let count : fewer.len ≡ div_ceil c.args.end g.T.BitStore.BITS = omega arith in
     record {
       items = rw c.take_last.ensures.items (sym (take_at fewer.items _ (div_ceil c.args.end g.T.BitStore.BITS) (sym fewer.ok.0 ∙ count)));

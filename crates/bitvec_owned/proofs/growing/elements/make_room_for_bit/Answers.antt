@@ -26,13 +26,10 @@ returns-then-phase_of-ne0 g c =
 
 pub returns-then-len-most_elements-clause-full : goal.returns-then-len-most_elements-clause-full
 returns-then-len-most_elements-clause-full g c =
-    let touched = c.requires.touched in
-    let many = c.len.ensures in
     past-next g.T.BitStore.BITS (width_some _ g.met.T.BitStore.width_law) c.args.end (vec_capacity c.args.elements.now) (sym c.phase_of.ensures ∙ c.if-phase_of-ne0.false) (omega arith)
 
 pub returns-in_err-push-clause-full : goal.returns-in_err-push-clause-full
 returns-in_err-push-clause-full g c =
-    let touched = c.requires.touched in
     let past = c.in_err-push.ensures.full in
     refused c.from_residual.result (past-next g.T.BitStore.BITS (width_some _ g.met.T.BitStore.width_law) c.args.end (vec_capacity c.args.elements.now) (sym c.phase_of.ensures ∙ c.if-phase_of-ne0.false) (omega arith))
 
@@ -45,7 +42,6 @@ returns g c =
     let some = width_some _ g.met.T.BitStore.width_law in
     let old = c.args.elements.now in
     let next = next-touched b some c.args.end (sym c.phase_of.ensures ∙ c.if-phase_of-ne0.false) in
-    let touched = c.requires.touched in
     let more = c.in_ok-push.ensures.len in
     let one : div_ceil (c.args.end + 1) b - old.len ≡ 1 = omega arith in
     let len : c.push.new.self.len ≡ div_ceil (c.args.end + 1) b = omega arith in

@@ -1,6 +1,6 @@
 use Rattle.std.proofs.Common.{◌+◌, ◌≤◌, ◌<◌, ◌∙◌, [], arith, refl, sym, subst}
 use Rattle.bitvec_slice.specs.Seen.{Seen}
-use Rattle.bitvec_owned.proofs.Added.{Held, first-bit, held-added, held-more, held-none, less-room}
+use Rattle.bitvec_owned.proofs.Added.{Held, first-bit, held-added, held-more, held-none}
 use Rattle.bitvec_owned.specs.Owned.{bit_capacity, owned}
 use Rattle.bitvec_owned.proofs.growing.walking.BitVecExtendBool.extend.Goals.{then-held-room+in_ok-reserve, else-held-room}
 use Rattle.bitvec_owned.proofs.growing.walking.BitVecExtendBool.extend.Goals as goal
@@ -16,12 +16,6 @@ loop-bit-init g c =
       held = held-none g.T.BitStore.BITS now now [] 0 0;
     }
 
-pub extend_from_word-requires-clause-room : goal.extend_from_word-requires-clause-room
-extend_from_word-requires-clause-room g c = less-room _ _ _ _ c.loop-bit.invariant.few c.loop-bit.invariant.there
-
-pub extend_from_word-requires-2-clause-room : goal.extend_from_word-requires-2-clause-room
-extend_from_word-requires-2-clause-room g c = less-room _ _ _ _ c.loop-bit.invariant.few c.loop-bit.invariant.there
-
 pub loop-bit-preserved : goal.loop-bit-preserved
 loop-bit-preserved g c =
     let b = g.T.BitStore.BITS in
@@ -35,9 +29,6 @@ loop-bit-preserved g c =
       | then-held-room+in_ok-reserve w ↦
           let flushed = held-added b first (owned c.loop-bit.self) list word c.loop-bit.held (owned w.extend_from_word.new.self) inv.held w.extend_from_word.ensures.bits w.extend_from_word.ensures.around in
           let room = w.room_in_word-room-then-held-room.ensures in
-          let added = w.extend_from_word.ensures.capacity in
-          let reserved = w.in_ok-reserve.ensures.capacity in
-          let was = inv.capacity in
           rw (w.self-is, w.held-is, w.room-is)
           (room.some w.in_ok-reserve.ensures.ok, room.bound, room.room, subst (λ (s : Seen g.row.T.Denot). Held b first s list word 0) (sym w.in_ok-reserve.ensures.same) flushed, omega arith)
       | else-held-room w ↦
