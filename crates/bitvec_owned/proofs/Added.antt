@@ -72,17 +72,15 @@ module _ {T : Type 0} (b : ℕ) (first now : Seen T) (list : List Bool) (word he
       let behind = length-drop (64 - held) (bits_of word) in
       omega arith
 
+  -- where none is held, all were added
+  pub held-all : Held b first now list word 0 → Adds b first list now
+  held-all was = subst (λ (l : List Bool). Adds b first l now) (sym (was.2 ∙ ap (λ (l : List Bool). was.0 ++ l) none-held ∙ append-nil was.0)) was.1
+
 -- the first bit of the word that a truth value is
 pub first-bit : (bit : Bool) (word : ℕ) → (bit ≡ true → word ≡ 1) → (bit ≡ false → word ≡ 0) → take 1 (element_bits 64 (λ b i. i) word) ≡ bit ∷ []
 unfolding element_bits
 first-bit true word one none = rw (one refl) refl
 first-bit false word one none = rw (none refl) refl
-
--- where none is held, all were added
-pub held-all : {T : Type 0} (b : ℕ) (first now : Seen T) (list : List Bool) (word : ℕ) → Held b first now list word 0 → Adds b first list now
-held-all b first now list word was =
-    let none : drop 64 (element_bits 64 (λ b i. i) word) ≡ [] = let long = length-element_bits 64 (λ b i. i) word in drop_all 64 (element_bits 64 (λ b i. i) word) (omega arith) in
-    subst (λ (l : List Bool). Adds b first l now) (sym (was.2 ∙ ap (λ (l : List Bool). was.0 ++ l) none ∙ append-nil was.0)) was.1
 
 -- what a view of a word's last bits shows, and one of its first bits
 module _ (at : ℕ → ℕ → ℕ) (word len : ℕ) (few : len ≤ 64) where

@@ -16,7 +16,7 @@ use Rattle.bitvec_owned.specs.Fronts.{LeavesFront}
 use Rattle.bitvec_owned.specs.Owned.{rest_bits}
 use Rattle.bitvec_owned.proofs.FrontLists.{cut-front, cut-zeros}
 use Rattle.bitvec_owned.proofs.Fronts.{times}
-use Rattle.bitvec_owned.proofs.Rooms.{fewest}
+use Rattle.bitvec_owned.proofs.Rooms.{more-touched}
 
 -- behind a list came values that are the same; so became its last ones, from the place `end` on, and then all are 0 behind so many
 module _ (old first new : List Bool) (end count r : ℕ) (bit : Bool) (inside : end ≤ length old) (fits : end + count ≤ length old + r)
@@ -119,9 +119,8 @@ module _ {T : Type 0} (b : ℕ) (at : ℕ → ℕ → ℕ) (value : T → ℕ) (
         let d = total - length old in
         let below = div_ceil_times end b some in
         let above = div_ceil_times (end + count) b some in
-        let fewer : div_ceil end b ≤ total = fewest b some end total (omega arith) in
         let rest : total - n ≡ d = ap (λ (k : ℕ). total - k) size in
-        let order : length old ≤ total = rw (← size, touched) fewer in
+        let order : length old ≤ total = rw (← size) (more-touched b some end count n total touched refl) in
         let added : between ≡ old ++ replicate (total - n) x = made ∙ ap (λ (l : List T). l ++ replicate (total - n) x) (take_all total old order) in
         let both : length between ≡ total =
         ap length added ∙ length-append old (replicate (total - n) x) ∙ ap (λ (k : ℕ). length old + k) (length-replicate (total - n) x) ∙ omega arith in

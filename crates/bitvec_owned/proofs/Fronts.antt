@@ -16,7 +16,7 @@ use Rattle.bitvec_slice.specs.SeenLaws.{length-memory, length_bits}
 use Rattle.bitvec_copying.specs.ElementsLaws.{numbers, refilled, same_length}
 use Rattle.bitvec_owned.specs.Copies.{Holds, KeepsAround}
 use Rattle.bitvec_owned.specs.Fronts.{LeavesFront}
-use Rattle.bitvec_owned.proofs.Rooms.{fewest, touched-inside}
+use Rattle.bitvec_owned.proofs.Rooms.{fewest, more-touched, touched-inside}
 use Rattle.bitvec_owned.proofs.FrontLists.{cut-front, cut-zeros, grown-front, grown-zeros, taken-front, taken-zeros, write_around, zeros_before, zeros_behind}
 
 pub times : (b x d c : ℕ) → x + d ≡ c → b * x + b * d ≡ b * c
@@ -153,7 +153,7 @@ module _ {T : Type 0} (b : ℕ) (at : ℕ → ℕ → ℕ) (value : T → ℕ) (
       let size = length-memory b at value old in
       let below = div_ceil_times (end + length list) b some in
       let inside = touched-inside b some end (length old) touched in
-      let fewer : length old ≤ count = rw touched (fewest b some end count (omega arith)) in
+      let fewer = more-touched b some end (length list) (length old) count touched refl in
       let added : between ≡ old ++ replicate (count - length old) none = made ∙ ap (λ (l : List T). l ++ replicate (count - length old) none) (take_all count old fewer) in
       let front : length (take end (bits_of old)) ≡ end = length-take-le end (bits_of old) (omega arith) in
       let long : length (take end (bits_of old) ++ list) ≡ end + length list = length-append (take end (bits_of old)) list ∙ ap (λ (k : ℕ). k + length list) front in

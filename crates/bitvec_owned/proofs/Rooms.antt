@@ -2,7 +2,7 @@
 use Rattle.std.specs.Prelude.{◌≡◌, ℕ, ◌+◌, ◌-◌, ◌*◌, ◌/◌, ◌%◌, ◌<◌, ◌≤◌, if◌then◌else◌, is_ok, min, OnErr, OnOk, Result, Ok, Err}
 use Rattle.std.specs.Int.{div_ceil}
 use Rattle.std.proofs.Common.{◌∙◌, ap, arith}
-use Rattle.std.proofs.Math.Nat.{div-mul-le_self, le-div_iff_mul-le, lt_of_mul-lt-mul_right, mul-le-mul_left}
+use Rattle.std.proofs.Math.Nat.{le-div_iff_mul-le, lt_of_mul-lt-mul_right, mul-le-mul_left}
 use Rattle.std.proofs.lemmas.Nat.{div-add-mod', mod_below}
 use Rattle.std.proofs.lemmas.Grind.{div_ceil_times}
 use Rattle.bitvec_base.specs.Window.{max_bits}
@@ -21,13 +21,12 @@ module _ (b : ℕ) (some : 0 < b) where
       let less : div_ceil end b < n + 1 = lt_of_mul-lt-mul_right b (omega arith) in
       omega arith
 
-  -- bits that touch more elements than there may be don't fit
-  pub past-usable : (end n : ℕ) → min n (max_bits / b) < div_ceil end b → usable_bits b n < end
-  past-usable end n past =
+  -- bits that touch more elements than so many don't fit these
+  pub past-fit : (end n : ℕ) → n < div_ceil end b → b * n < end
+  past-fit end n past =
       let rounded = div_ceil_times end b some in
-      let few = min n (max_bits / b) in
-      let more : b * (few + 1) ≤ b * div_ceil end b = mul-le-mul_left {m = few + 1} {n = div_ceil end b} b (omega arith) in
-      let apart : b * (few + 1) ≡ b * few + b = omega arith in
+      let more : b * (n + 1) ≤ b * div_ceil end b = mul-le-mul_left {m = n + 1} {n = div_ceil end b} b (omega arith) in
+      let apart : b * (n + 1) ≡ b * n + b = omega arith in
       omega arith
 
   -- so many elements have no more bits than a memory may
@@ -37,6 +36,10 @@ module _ (b : ℕ) (some : 0 < b) where
   -- they hold the bits that touch them
   pub touched-inside : (end n : ℕ) → n ≡ div_ceil end b → end ≤ b * n
   touched-inside end n is = let rounded = div_ceil_times end b some in rw is (omega arith)
+
+  -- more bits touch as many elements, or more
+  pub more-touched : (end more n k : ℕ) → n ≡ div_ceil end b → k ≡ div_ceil (end + more) b → n ≤ k
+  more-touched end more n k few many = let inside = touched-inside (end + more) k many in rw few (fewest end k (omega arith))
 
   -- of n elements those are left that the first bits touch: they hold these, and fit
   pub cut-fits : (end n left k : ℕ) → end ≤ b * n → b * n ≤ max_bits → k ≡ div_ceil end b → left + (n - k) ≡ n → (left ≡ div_ceil end b) × (end ≤ b * left) × (b * left ≤ max_bits)
@@ -75,29 +78,23 @@ module _ (b : ℕ) (some : 0 < b) where
   past-next end n whole past =
       let sum = div-add-mod' end b in
       let none : div_ceil end b ≡ end / b = rw whole (omega arith) in
-      let product = mul-le-mul_left {m = min n (max_bits / b)} {n = div_ceil end b} b past in
+      let product = mul-le-mul_left {m = min n (max_bits / b)} {n = div_ceil end b} b (omega arith) in
       let all : b * div_ceil end b ≡ b * (end / b) = ap (λ (k : ℕ). b * k) none in
       omega arith
 
   -- ---- the elements that there may be
 
-  pub most-fit : max_bits / b * b ≤ max_bits
-  most-fit = div-mul-le_self max_bits b
+  pub usable-fits : (n : ℕ) → usable_bits b n ≤ max_bits
+  usable-fits n = few-fit (min n (max_bits / b)) (omega arith)
 
-  pub usable-most : (n : ℕ) → usable_bits b n ≤ max_bits / b * b
-  usable-most n = let product = mul-le-mul_left {m = min n (max_bits / b)} {n = max_bits / b} b (omega arith) in omega arith
+  pub usable-most : (n : ℕ) → usable_bits b n ≤ b * (max_bits / b)
+  usable-most n = mul-le-mul_left {m = min n (max_bits / b)} {n = max_bits / b} b (omega arith)
 
   pub usable-more : (n k : ℕ) → n ≤ k → usable_bits b n ≤ usable_bits b k
   usable-more n k more = mul-le-mul_left {m = min n (max_bits / b)} {n = min k (max_bits / b)} b (omega arith)
-
-  pub inside-usable : (end n : ℕ) → div_ceil end b ≤ min n (max_bits / b) → end ≤ usable_bits b n
-  inside-usable end n few =
-      let rounded = div_ceil_times end b some in
-      let product = mul-le-mul_left {m = div_ceil end b} {n = min n (max_bits / b)} b few in
-      omega arith
 
   -- n elements were asked for, as many as the bits up to `end` touch
   pub granted : {V E : Type 0} (r : Result V E) (end n len was before after : ℕ) → n ≡ div_ceil end b → n ≤ max_bits / b → len ≡ (if is_ok r then n else was) → OnErr r (before < n) → before ≤ after
       → OnOk r (b * len ≤ max_bits) × OnOk r (end ≤ b * len) × OnErr r (usable_bits b before < end) × (usable_bits b before ≤ usable_bits b after)
   granted (Ok v) end n len was before after is few count full more = (rw count (few-fit n few), touched-inside end len (count ∙ is), tt, usable-more before after more)
-  granted (Err e) end n len was before after is few count full more = (tt, tt, past-usable end before (omega (arith, is, full)), usable-more before after more)
+  granted (Err e) end n len was before after is few count full more = (tt, tt, past-fit end (min before (max_bits / b)) (omega (arith, is, full)), usable-more before after more)

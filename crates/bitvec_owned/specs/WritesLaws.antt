@@ -74,22 +74,29 @@ module _ {T : Type 0} (b : ℕ) (at : ℕ → ℕ → ℕ) (value : T → ℕ) (
       }
 
 module _ {T O A : Type 0} {t : Store T} {o : Order O} (some : 0 < t.BITS) (v : BitVec T O A t o) where
+  -- The elements of an owned sequence have the places up to its last bit.
+  pub places : v.head + v.len ≤ t.BITS * vec_len v.elements
+  places = let rounded = div_ceil_times (v.head + v.len) t.BITS some in rw v.touched (omega arith)
+
+  -- An owned sequence ends at most at the place `max_bits`.
+  pub ends : v.head + v.len ≤ max_bits
+  ends = let all = places in let fits = v.bounded in omega arith
+
   -- The bits of an owned sequence lie in its elements.
   pub inside : v.head + v.len ≤ t.BITS * length v.elements.items
-  inside =
-      let rounded = div_ceil_times (v.head + v.len) t.BITS some in
-      let touched = v.touched in
-      rw (sym v.elements.ok.0, touched) (omega arith)
+  inside = rw (sym v.elements.ok.0) places
 
   -- An owned sequence has as many bits as its length says.
   pub length-owned : length (owned v).bits ≡ v.len
   length-owned = length_bits t.BITS o.at t.value v.elements.items v.head v.len inside
 
+  -- The elements for which an owned sequence has memory have the places up to its last bit.
+  pub held : v.head + v.len ≤ usable_bits t.BITS (vec_capacity v.elements)
+  held = held-usable t.BITS (v.head + v.len) (vec_len v.elements) (vec_capacity v.elements) some v.touched v.elements.ok.1 v.bounded
+
   -- An owned sequence has memory for all of its bits.
   pub owned-room : (owned v).window.len ≤ bit_capacity v
-  owned-room =
-      let held = held-usable t.BITS (v.head + v.len) (vec_len v.elements) (vec_capacity v.elements) some v.touched v.elements.ok.1 v.bounded in
-      omega arith
+  owned-room = let room = held in omega arith
 
   -- A view of all bits of an owned sequence shows its elements.
   pub sequence_elements : ShowsElements t.BITS o.at t.value (owned v)

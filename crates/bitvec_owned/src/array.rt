@@ -9,6 +9,7 @@ mod iterating;
 mod texts;
 mod views;
 
+use crate::counts::bits_of;
 use bitvec_base::{BitOrder, Window};
 use bitvec_slice::{BitSlice, BitSliceMut};
 use bitvec_store::BitStore;
@@ -74,7 +75,7 @@ impl<T: BitStore, O: BitOrder, const N: usize> BitArray<T, O, N> {
         ensures view { seen result ≡ in_array self.now }
         ensures bits { (seen result).bits ≡ (in_array self.now).bits }
     {
-        BitSlice::from_parts(self.elements.as_slice(), 0, N * (T::BITS as usize))
+        BitSlice::from_parts(self.elements.as_slice(), 0, bits_of::<T>(N))
     }
 
     /// A view that writes the bits.
@@ -82,7 +83,7 @@ impl<T: BitStore, O: BitOrder, const N: usize> BitArray<T, O, N> {
         ensures* writes_back { sem 𝓛 (lends T.row O.row N.row self.entry (name_of result)) }
         ensures view { seen_mut result ≡ in_array self.old }
     {
-        BitSliceMut::from_parts(self.as_raw_mut_slice(), 0, N * (T::BITS as usize))
+        BitSliceMut::from_parts(self.as_raw_mut_slice(), 0, bits_of::<T>(N))
     }
 
     /// How many bits there are.

@@ -6,6 +6,7 @@ mod array;
 mod bit_vec;
 mod cloning;
 mod copying;
+mod counts;
 mod equality;
 mod growing;
 mod iterating;

@@ -1,21 +1,14 @@
 //! Sequences with no bit, and the memory that they have for more.
-ghost use Rattle.std.specs.Prelude.{◌≡◌, ◌+◌, ◌*◌, ◌/◌, ◌<◌, ◌≤◌, [], IfOk, IsOk, OnErr, OnOk, length};
+ghost use Rattle.std.specs.Prelude.{◌≡◌, ◌+◌, ◌*◌, ◌<◌, ◌≤◌, [], IfOk, IsOk, OnErr, OnOk, length};
 ghost use Rattle.std.specs.Int.{div_ceil};
-ghost use Rattle.bitvec_base.specs.Window.{max_bits};
 ghost use Rattle.bitvec_owned.specs.Copies.{Holds};
 ghost use Rattle.bitvec_owned.specs.Owned.{bit_capacity, owned};
 
 use crate::BitVec;
-use bitvec_base::{BitOrder, MAX_BITS};
+use crate::counts::{bits_of, most_elements, room_for};
+use bitvec_base::BitOrder;
 use bitvec_store::BitStore;
 use std::alloc::{AllocError, Allocator};
-
-/// How many elements have at most `MAX_BITS` bits.
-fn most_elements<T: BitStore>() -> usize
-    ensures { result ≡ max_bits / T.BITS }
-{
-    MAX_BITS / T::BITS as usize
-}
 
 impl<T: BitStore, O: BitOrder, A: Allocator> BitVec<T, O, A> {
     /// A sequence of no bit, which asks for no memory: `new` of `bitvec`.
@@ -38,11 +31,7 @@ impl<T: BitStore, O: BitOrder, A: Allocator> BitVec<T, O, A> {
         ensures exact { IfOk result (λ made. bit_capacity made ≡ T.BITS * div_ceil bits T.BITS) }
         ensures none { bits ≡ 0 → IsOk result }
     {
-        let count = bits.div_ceil(T::BITS as usize);
-        if count > most_elements::<T>() {
-            return Err(AllocError);
-        }
-        let elements = Vec::with_capacity(alloc, count)?;
+        let elements = Vec::with_capacity(alloc, room_for::<T>(bits)?)?;
         Ok(BitVec::from_parts(elements, 0, 0))
     }
 
@@ -53,7 +42,7 @@ impl<T: BitStore, O: BitOrder, A: Allocator> BitVec<T, O, A> {
         ensures bound { (owned self.now).window.len ≤ result }
     {
         let elements = self.elements.capacity().min(most_elements::<T>());
-        elements * T::BITS as usize - self.head
+        bits_of::<T>(elements) - self.head
     }
 
     /// Makes memory for so many bits more, at least. It grows as that of a `Vec`, so that many calls that add a bit each
@@ -66,12 +55,8 @@ impl<T: BitStore, O: BitOrder, A: Allocator> BitVec<T, O, A> {
         ensures full { OnErr result (bit_capacity self.old < (owned self.old).window.len + additional) }
         ensures err { OnErr result (bit_capacity self.new ≡ bit_capacity self.old) }
     {
-        let width = T::BITS as usize;
         let end = self.head + self.len;
-        if additional > most_elements::<T>() * width - end {
-            return Err(AllocError);
-        }
-        let count = (end + additional).div_ceil(width);
+        let count = room_for::<T>(end.saturating_add(additional))?;
         self.elements.reserve(count - self.elements.len())
     }
 

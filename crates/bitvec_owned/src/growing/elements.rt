@@ -1,13 +1,15 @@
 //! The elements of a sequence get more bits at their end, or lose the last ones.
-ghost use Rattle.std.specs.Prelude.{◌≡◌, ◌+◌, ◌-◌, ◌*◌, ◌<◌, ◌≤◌, ◌++◌, OnErr, OnOk, false, if◌then◌else◌, is_ok, length, map, replicate, slice_index_or, take, vec_capacity, vec_len};
+ghost use Rattle.std.specs.Prelude.{◌≡◌, ◌+◌, ◌-◌, ◌*◌, ◌<◌, ◌≤◌, ◌++◌, OnErr, OnOk, if◌then◌else◌, is_ok, length, map, replicate, take, vec_capacity, vec_len};
 ghost use Rattle.std.specs.Int.{div_ceil};
 ghost use Rattle.bitvec_base.specs.Memory.{memory_bits};
 ghost use Rattle.bitvec_base.specs.Window.{max_bits, write_at};
 ghost use Rattle.bitvec_owned.specs.Fronts.{LeavesFront};
 ghost use Rattle.bitvec_owned.specs.Owned.{rest_bits, usable_bits};
 
-use bitvec_base::{BitOrder, MAX_BITS, Part};
+use crate::counts::{most_elements, room_for};
+use bitvec_base::{BitOrder, MAX_BITS, Part, elements_of};
 use bitvec_cells::{Exclusive, fill_part};
+use bitvec_slice::phase_of;
 use bitvec_store::BitStore;
 use std::alloc::{AllocError, Allocator};
 
@@ -26,11 +28,7 @@ pub(crate) fn make_room<T: BitStore, A: Allocator>(
     ensures full { OnErr result (usable_bits T.BITS (vec_capacity elements.old) < end) }
     ensures capacity { usable_bits T.BITS (vec_capacity elements.old) ≤ usable_bits T.BITS (vec_capacity elements.new) }
 {
-    let width = T::BITS as usize;
-    let count = end.div_ceil(width);
-    if count > MAX_BITS / width {
-        return Err(AllocError);
-    }
+    let count = room_for::<T>(end)?;
     // Of a value that is known at compile time, the elements are written by wide stores.
     if bit {
         elements.resize(count, T::ALL)
@@ -53,11 +51,10 @@ pub(crate) fn make_room_for_bit<T: BitStore, A: Allocator>(
     ensures full { OnErr result (usable_bits T.BITS (vec_capacity elements.old) ≤ end) }
     ensures capacity { usable_bits T.BITS (vec_capacity elements.old) ≤ usable_bits T.BITS (vec_capacity elements.new) }
 {
-    let width = T::BITS as usize;
-    if end % width != 0 {
+    if phase_of::<T>(end) != 0 {
         return Ok(());
     }
-    if elements.len() >= MAX_BITS / width {
+    if elements.len() >= most_elements::<T>() {
         return Err(AllocError);
     }
     elements.push(T::ZERO)?;
@@ -73,15 +70,14 @@ pub(crate) fn fill_rest<T: BitStore, O: BitOrder>(elements: &mut [T], place: usi
         ≡ write_at (memory_bits T.BITS O.at (map T.value elements.old)) place (replicate (rest_bits T.BITS place) bit) }
     ensures len { length elements.new ≡ length elements.old }
 {
-    let width = T::BITS as usize;
-    let from = place % width;
+    let from = phase_of::<T>(place);
     if from == 0 {
         return;
     }
     let part = Part {
-        element: place / width,
+        element: elements_of::<T>(place),
         from,
-        to: width,
+        to: T::BITS as usize,
     };
     fill_part::<O, Exclusive<T>>(&mut Exclusive::new(elements), part, bit);
 }
@@ -114,35 +110,13 @@ pub(crate) fn put_same<T: BitStore, O: BitOrder, A: Allocator>(
 }
 
 /// Drops the last element where the bits up to `end` don't touch it. They and one bit more touch all elements.
-fn drop_untouched<T: BitStore, A: Allocator>(elements: &mut Vec<T, A>, end: usize)
+pub(crate) fn drop_untouched<T: BitStore, A: Allocator>(elements: &mut Vec<T, A>, end: usize)
     requires touched { vec_len elements.old ≡ div_ceil (end + 1) T.BITS }
     ensures items { elements.new.items ≡ take (div_ceil end T.BITS) elements.old.items }
     ensures len { vec_len elements.new ≡ div_ceil end T.BITS }
     ensures capacity { vec_capacity elements.new ≡ vec_capacity elements.old }
 {
-    let width = T::BITS as usize;
-    if end % width == 0 {
+    if phase_of::<T>(end) == 0 {
         elements.take_last();
     }
-}
-
-/// Takes the bit at the place `last`, behind which no bit is.
-pub(crate) fn take_bit<T: BitStore, O: BitOrder, A: Allocator>(
-    elements: &mut Vec<T, A>,
-    last: usize,
-) -> bool
-    requires touched { vec_len elements.old ≡ div_ceil (last + 1) T.BITS }
-    requires bounded { T.BITS * vec_len elements.old ≤ max_bits }
-    ensures value { result ≡ slice_index_or (memory_bits T.BITS O.at (map T.value elements.old.items)) last false }
-    ensures left { LeavesFront T.BITS O.at T.value elements.old.items elements.new.items (last + 1) (take last (memory_bits T.BITS O.at (map T.value elements.old.items))) }
-    ensures len { vec_len elements.new ≡ div_ceil last T.BITS }
-    ensures fits { T.BITS * vec_len elements.new ≤ max_bits }
-    ensures capacity { vec_capacity elements.new ≡ vec_capacity elements.old }
-{
-    let width = T::BITS as usize;
-    let element = elements[last / width];
-    let mask = O::select::<T>(last % width);
-    elements[last / width] = element.and(mask.not());
-    drop_untouched(elements, last);
-    element.and(mask).to_u128() != 0
 }

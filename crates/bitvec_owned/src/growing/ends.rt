@@ -4,10 +4,11 @@ ghost use Rattle.std.specs.Option.{option_to_list};
 ghost use Rattle.bitvec_owned.specs.Copies.{KeepsAround};
 ghost use Rattle.bitvec_owned.specs.Owned.{bit_capacity, owned};
 
-use super::elements::{fill_rest, make_room_for_bit, take_bit};
+use super::elements::{drop_untouched, fill_rest, make_room_for_bit};
 use crate::BitVec;
+use crate::counts::touched_by;
 use bitvec_base::{BitOrder, Window};
-use bitvec_domain::set_in;
+use bitvec_domain::{replace_in, set_in};
 use bitvec_store::BitStore;
 use std::alloc::{AllocError, Allocator};
 
@@ -46,7 +47,10 @@ impl<T: BitStore, O: BitOrder, A: Allocator> BitVec<T, O, A> {
             return None;
         }
         let last = self.len - 1;
-        let bit = take_bit::<T, O, A>(&mut self.elements, self.head + last);
+        let end = self.head + last;
+        let window = Window { start: end, len: 1 };
+        let bit = replace_in::<T, O>(self.elements.as_mut_slice(), window, 0, false);
+        drop_untouched(&mut self.elements, end);
         self.len = last;
         Some(bit)
     }
@@ -59,7 +63,7 @@ impl<T: BitStore, O: BitOrder, A: Allocator> BitVec<T, O, A> {
     {
         if len < self.len {
             let end = self.head + len;
-            self.elements.truncate(end.div_ceil(T::BITS as usize));
+            self.elements.truncate(touched_by::<T>(end));
             fill_rest::<T, O>(self.elements.as_mut_slice(), end, false);
             self.len = len;
         }

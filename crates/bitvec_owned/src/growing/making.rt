@@ -8,6 +8,7 @@ ghost use Rattle.bitvec_slice.specs.Seen.{shown};
 ghost use Rattle.bitvec_slice.specs.Views.{seen};
 
 use crate::BitVec;
+use crate::counts::touched_by;
 use bitvec_base::BitOrder;
 use bitvec_slice::BitSlice;
 use bitvec_store::BitStore;
@@ -64,7 +65,7 @@ impl<T: BitStore, O: BitOrder, A: Allocator> BitVec<T, O, A> {
         ensures capacity { bit_capacity result ≡ usable_bits T.BITS (vec_capacity elements) - head }
     {
         let mut elements = elements;
-        elements.truncate((head + len).div_ceil(T::BITS as usize));
+        elements.truncate(touched_by::<T>(head + len));
         BitVec::from_parts(elements, head, len)
     }
 }

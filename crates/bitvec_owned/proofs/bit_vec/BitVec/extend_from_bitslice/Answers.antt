@@ -2,7 +2,24 @@ use Rattle.std.proofs.Common.{◌≡◌, ◌+◌, arith, refl, rules}
 use Rattle.bitvec_store.specs.WidthLaws.{width_some}
 use Rattle.bitvec_slice.specs.Views.{seen}
 use Rattle.bitvec_owned.proofs.Fronts.{grown-shown, has-window}
+use Rattle.bitvec_owned.proofs.Rooms.{refused}
+use Rattle.bitvec_owned.specs.WritesLaws.{ends, held}
 use Rattle.bitvec_owned.proofs.bit_vec.BitVec.extend_from_bitslice.Goals as goal
+
+pub overflow_add-end : goal.overflow_add-end
+overflow_add-end g c = omega (arith, ends (width_some _ g.met.T.BitStore.width_law) c.args.self.now)
+
+pub overflow_add-end-2 : goal.overflow_add-end-2
+overflow_add-end-2 g c = let view = c.window-from.ensures.inside in omega (arith, ends (width_some _ g.met.T.BitStore.width_law) c.args.self.now, view.fits, view.within.len)
+
+pub returns-in_err-make_room-clause-full : goal.returns-in_err-make_room-clause-full
+returns-in_err-make_room-clause-full g c =
+    let room = held (width_some _ g.met.T.BitStore.width_law) c.args.self.now in
+    let full = rw c.window-from.ensures.value at c.in_err-make_room.ensures.full in
+    refused c.from_residual.result (omega arith)
+
+pub overflow_add-self : goal.overflow_add-self
+overflow_add-self g c = omega (arith, c.in_ok-make_room.ensures.inside, c.in_ok-make_room.ensures.fits)
 
 pub copy_from_in-requires-clause-window : goal.copy_from_in-requires-clause-window
 copy_from_in-requires-clause-window g c =

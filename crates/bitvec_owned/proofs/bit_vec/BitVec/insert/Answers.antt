@@ -15,7 +15,6 @@ copy_within-requires g c =
     let before = length-owned some c.args.self.now in
     let after = length-owned some c.push.new.self in
     let more : length (owned c.push.new.self).bits ≡ length (owned c.args.self.now).bits + 1 = ap length c.in_ok-push.ensures.bits ∙ length_push (owned c.args.self.now).bits c.args.bit in
-    let size = c.len-len.ensures.window in
     record { order = omega arith; source = omega arith; room = omega arith }
 
 pub set-requires : goal.set-requires
@@ -31,7 +30,6 @@ pub returns-clause-bits : goal.returns-clause-bits
 returns-clause-bits g c =
     let old = (owned c.args.self.now).bits in
     let long = c.len-len.ensures.value in
-    let size = c.len-len.ensures.window in
     c.set.ensures.bits
     ∙ ap (λ (l : List Bool). slice_set l c.args.index c.args.bit) (c.copy_within.ensures.bits ∙ ap (copied_within c.args.index c.len-len.result (c.args.index + 1)) c.in_ok-push.ensures.bits)
     ∙ opened old c.args.bit c.args.bit c.args.index c.len-len.result long (omega arith)

@@ -4,4 +4,4 @@ use Rattle.bitvec_owned.proofs.bit_vec.BitVec.new_in.Goals as goal
 
 pub returns-clause-held : goal.returns-clause-held
 returns-clause-held g c =
-    held_none g.T.BitStore.BITS g.O.BitOrder.at g.T.BitStore.value (width_some _ g.met.T.BitStore.width_law) g.T.BitStore.ZERO _ _ g.met.T.BitStore.zero_law c.new.ensures.items c.from_parts.ensures.shows
+    held_none g.T.BitStore.BITS g.O.BitOrder.at g.T.BitStore.value (width_some _ g.met.T.BitStore.width_law) _ _ c.new.ensures.items c.from_parts.ensures.shows

@@ -2,7 +2,14 @@ use Rattle.std.proofs.Common.{◌≡◌, ◌+◌, [], ◌∷◌, arith, refl}
 use Rattle.bitvec_store.specs.WidthLaws.{width_some}
 use Rattle.bitvec_owned.proofs.FrontLists.{one-set}
 use Rattle.bitvec_owned.proofs.Fronts.{grown-shown, has-window}
+use Rattle.bitvec_owned.specs.WritesLaws.{ends}
 use Rattle.bitvec_owned.proofs.bit_vec.BitVec.push.Goals as goal
+
+pub overflow_add-end : goal.overflow_add-end
+overflow_add-end g c = omega (arith, ends (width_some _ g.met.T.BitStore.width_law) c.args.self.now)
+
+pub overflow_add-self : goal.overflow_add-self
+overflow_add-self g c = omega (arith, ends (width_some _ g.met.T.BitStore.width_law) c.args.self.now)
 
 pub set_in-requires-clause-window : goal.set_in-requires-clause-window
 set_in-requires-clause-window g c =

@@ -21,8 +21,6 @@ extend_from_word-requires-clause-room g c =
     let now = length-owned some c.loop-bit.self in
     let sum = held-long g.T.BitStore.BITS (owned c.args.self.now) (owned c.loop-bit.self) (take c.loop-bit.bit-index bools) c.loop-bit.word c.loop-bit.held inv.held inv.few in
     let few = length-take c.loop-bit.bit-index bools in
-    let room = c.requires in
-    let more = inv.capacity in
     omega arith
 
 pub extend_from_word-requires-2-clause-room : goal.extend_from_word-requires-2-clause-room
@@ -34,8 +32,6 @@ extend_from_word-requires-2-clause-room g c =
     let now = length-owned some c.loop-bit.self in
     let sum = held-long g.T.BitStore.BITS (owned c.args.self.now) (owned c.loop-bit.self) (take c.loop-bit.bit-index bools) c.loop-bit.word c.loop-bit.held inv.held inv.few in
     let few = length-take c.loop-bit.bit-index bools in
-    let room = c.requires in
-    let more = inv.capacity in
     omega arith
 
 pub loop-bit-preserved : goal.loop-bit-preserved
@@ -51,8 +47,6 @@ loop-bit-preserved g c =
     elim c.if-held-eq64.branch [
       | then-held-eq64 w ↦
           let flushed = held-added b first (owned c.loop-bit.self) list word c.loop-bit.held (owned w.extend_from_word.new.self) inv.held w.extend_from_word.ensures.bits w.extend_from_word.ensures.around in
-          let added = w.extend_from_word.ensures.capacity in
-          let was = inv.capacity in
           rw (w.self-is, w.held-is) (omega arith, flushed, omega arith)
       | else-held-eq64 w ↦
           let differ = w.if-held-eq64.false in
@@ -79,9 +73,7 @@ returns g c =
     let list = take c.loop-bit.bit-index bools in
     let last = c.extend_from_word-2.ensures in
     let flushed = held-added b first (owned c.loop-bit.self) list c.loop-bit.word c.loop-bit.held (owned c.extend_from_word-2.new.self) inv.held last.bits last.around in
-    let added = held-all b first (owned c.extend_from_word-2.new.self) list c.loop-bit.word flushed in
-    let was = inv.capacity in
-    let now = last.capacity in
+    let added = held-all b first (owned c.extend_from_word-2.new.self) list c.loop-bit.word 0 flushed in
     record {
       bits = added.0 ∙ ap (λ (l : List Bool). first.bits ++ l) (take_all c.loop-bit.bit-index bools c.loop-bit-test.false);
       around = added.1;

@@ -7,7 +7,6 @@ use Rattle.bitvec_owned.proofs.bit_vec.BitVec.remove.Goals as goal
 pub returns-clause-bits : goal.returns-clause-bits
 returns-clause-bits g c =
     let long = c.len-len.ensures.value in
-    let size = c.len-len.ensures.window in
     c.truncate.ensures.bits
     ∙ ap (take (c.len-len.result - 1)) c.copy_within.ensures.bits
     ∙ closed_one (owned c.args.self.now).bits c.args.index c.len-len.result (c.len-len.result - 1) long (omega arith) refl

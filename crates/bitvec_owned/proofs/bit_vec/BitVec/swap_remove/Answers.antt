@@ -6,8 +6,6 @@ use Rattle.bitvec_owned.proofs.bit_vec.BitVec.swap_remove.Goals as goal
 
 pub returns-clause-bits : goal.returns-clause-bits
 returns-clause-bits g c =
-    let long = c.len-last.ensures.value in
-    let size = c.len-last.ensures.window in
     c.truncate.ensures.bits
     ∙ ap (take (c.len-last.result - 1)) c.swap.ensures.bits
     ∙ exchanged (owned c.args.self.now).bits c.args.index (c.len-last.result - 1) _ (omega arith) (omega arith)

@@ -1,4 +1,4 @@
-use Rattle.std.proofs.Common.{◌≡◌, ◌%◌, arith, map, sym}
+use Rattle.std.proofs.Common.{◌≡◌, ◌%◌, ◌∙◌, arith, map, sym}
 use Rattle.bitvec_base.specs.Memory.{memory_bits}
 use Rattle.bitvec_base.specs.WriteLaws.{write_at-nil}
 use Rattle.bitvec_slice.specs.SeenLaws.{length-memory}
@@ -10,6 +10,5 @@ returns-then-from-eq0-clause-bits g c =
     let b = g.T.BitStore.BITS in
     let memory = memory_bits b g.O.BitOrder.at (map g.T.BitStore.value c.args.elements.now) in
     let long = length-memory b g.O.BitOrder.at g.T.BitStore.value c.args.elements.now in
-    let inside = c.requires.inside in
-    let whole : c.args.place % b ≡ 0 = rw c.BITS-width.ensures at c.if-from-eq0.true in
+    let whole : c.args.place % b ≡ 0 = sym c.phase_of-from.ensures ∙ c.if-from-eq0.true in
     rw (rest-none b c.args.place whole) (sym (write_at-nil memory c.args.place (omega arith)))

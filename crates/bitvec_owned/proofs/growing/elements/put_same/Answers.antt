@@ -9,7 +9,6 @@ use Rattle.bitvec_owned.proofs.growing.elements.put_same.Goals as goal
 pub fill_rest-requires : goal.fill_rest-requires
 fill_rest-requires g c =
     let room = c.in_ok-make_room.ensures in
-    let end = room.inside in
     rw c.as_mut_slice-slice.ensures.len (record { inside = omega arith; bounded = room.fits })
 
 pub fill_rest-requires-2 : goal.fill_rest-requires-2

@@ -29,9 +29,6 @@ loop-bit-preserved g c =
       | then-held-room+in_ok-reserve w ↦
           let flushed = held-added b first (owned c.loop-bit.self) list word c.loop-bit.held (owned w.extend_from_word.new.self) inv.held w.extend_from_word.ensures.bits w.extend_from_word.ensures.around in
           let room = w.room_in_word-room-then-held-room.ensures in
-          let added = w.extend_from_word.ensures.capacity in
-          let reserved = w.in_ok-reserve.ensures.capacity in
-          let was = inv.capacity in
           rw (w.self-is, w.held-is, w.room-is)
           (room.some w.in_ok-reserve.ensures.ok, room.bound, room.room, subst (λ (s : Seen g.row.T.Denot). Held b first s list word 0) (sym w.in_ok-reserve.ensures.same) flushed, omega arith)
       | else-held-room w ↦
