@@ -36,23 +36,18 @@ right_op_of word right =
     else if bytes_eq word (codes "contains") then Some (op.Contains right)
     else None
 
--- one with two or three arguments
-unfoldable pub long_op_of : List ℕ → List (List ℕ) → Option Op
-long_op_of word arguments =
-    if bytes_eq word (codes "set") then option_map (λ given. op.Set given.0 given.1) (number_and_bit arguments)
-    else if bytes_eq word (codes "replace") then option_map (λ given. op.Replace given.0 given.1) (number_and_bit arguments)
-    else if bytes_eq word (codes "swap") then option_map (λ given. op.Swap given.0 given.1) (two_numbers arguments)
-    else if bytes_eq word (codes "copy_within") then option_map (λ given. op.CopyWithin given.0 given.1 given.2) (three_numbers arguments)
-    else one_window arguments >>= right_op_of word
-
 -- the command of a word and its arguments
 unfoldable pub op_of : List ℕ → List (List ℕ) → Option Op
 op_of word arguments =
     if bytes_eq word (codes "get") then option_map op.Get (one_number arguments)
+    else if bytes_eq word (codes "set") then option_map (λ given. op.Set given.0 given.1) (number_and_bit arguments)
+    else if bytes_eq word (codes "replace") then option_map (λ given. op.Replace given.0 given.1) (number_and_bit arguments)
+    else if bytes_eq word (codes "swap") then option_map (λ given. op.Swap given.0 given.1) (two_numbers arguments)
     else if bytes_eq word (codes "fill") then option_map op.Fill (one_bit arguments)
     else if bytes_eq word (codes "shift_start") then option_map op.ShiftStart (one_number arguments)
     else if bytes_eq word (codes "shift_end") then option_map op.ShiftEnd (one_number arguments)
     else if bytes_eq word (codes "rotate_left") then option_map op.RotateLeft (one_number arguments)
     else if bytes_eq word (codes "rotate_right") then option_map op.RotateRight (one_number arguments)
+    else if bytes_eq word (codes "copy_within") then option_map (λ given. op.CopyWithin given.0 given.1 given.2) (three_numbers arguments)
     else if no_argument arguments then bare_op_of word
-    else long_op_of word arguments
+    else one_window arguments >>= right_op_of word

@@ -32,7 +32,9 @@ pub(crate) fn parse_steps<A: Allocator>(alloc: A, text: &str) -> Result<Vec<Step
         if line.is_empty() {
             continue;
         }
-        let step = parse_step(line).ok_or(Fault::Line(index + 1))?;
+        let Some(step) = parse_step(line) else {
+            return Err(Fault::Line(index + 1));
+        };
         steps.push(step)?;
     }
     Ok(steps)

@@ -1,6 +1,6 @@
-//! The commands of the lines, in four tables.
+//! The commands of the lines, in three tables.
 ghost use Rattle.std.specs.Prelude.{◌≡◌};
-ghost use Rattle.bitdo_work.specs.Ops.{op_of, long_op_of, right_op_of, bare_op_of};
+ghost use Rattle.bitdo_work.specs.Ops.{op_of, right_op_of, bare_op_of};
 ghost use Rattle.bitdo_work.specs.Words.{words_left};
 
 use crate::words::Words;
@@ -15,22 +15,6 @@ pub(crate) fn parse_op(word: &str, arguments: Words<'_>) -> Option<Op>
 {
     match word {
         "get" => arguments.number().map(Op::Get),
-        "fill" => arguments.bit().map(Op::Fill),
-        "shift_start" => arguments.number().map(Op::ShiftStart),
-        "shift_end" => arguments.number().map(Op::ShiftEnd),
-        "rotate_left" => arguments.number().map(Op::RotateLeft),
-        "rotate_right" => arguments.number().map(Op::RotateRight),
-        _ if arguments.is_empty() => bare_op(word),
-        _ => long_op(word, arguments),
-    }
-}
-
-/// The command of a word with two or three arguments.
-#[tactic(auto, unfolding(crate::specs::Ops::long_op_of))]
-fn long_op(word: &str, arguments: Words<'_>) -> Option<Op>
-    ensures { result ≡ long_op_of word.now (words_left arguments.entry) }
-{
-    match word {
         "set" => {
             let (index, bit) = arguments.number_and_bit()?;
             Some(Op::Set(index, bit))
@@ -43,10 +27,16 @@ fn long_op(word: &str, arguments: Words<'_>) -> Option<Op>
             let (first, second) = arguments.two_numbers()?;
             Some(Op::Swap(first, second))
         }
+        "fill" => arguments.bit().map(Op::Fill),
+        "shift_start" => arguments.number().map(Op::ShiftStart),
+        "shift_end" => arguments.number().map(Op::ShiftEnd),
+        "rotate_left" => arguments.number().map(Op::RotateLeft),
+        "rotate_right" => arguments.number().map(Op::RotateRight),
         "copy_within" => {
             let (start, end, dest) = arguments.three_numbers()?;
             Some(Op::CopyWithin(start, end, dest))
         }
+        _ if arguments.is_empty() => bare_op(word),
         _ => right_op(word, arguments.window()?),
     }
 }

@@ -1,6 +1,5 @@
 //! What a run prints: a line a reply, and the memory.
-ghost use Rattle.std.specs.Prelude.{◌≡◌, ◌++◌, ◌^◌, ◌<◌, ◌≤◌, All, map, OnOk};
-ghost use Rattle.std.specs.Fmt.{decimal};
+ghost use Rattle.std.specs.Prelude.{◌≡◌, ◌^◌, ◌<◌, ◌≤◌, All, map, OnOk};
 ghost use Rattle.std.specs.List.{flat_map};
 ghost use Rattle.std.specs.Io.KnownBytes.{Appends};
 ghost use Rattle.bitdo_work.specs.Faults.{fault_text};
@@ -46,33 +45,19 @@ fn order_word(order: Ordering) -> &'static str
     }
 }
 
-/// Prints a word behind its label, on a line of its own.
-fn print_word<W: Write>(output: &mut W, label: &str, word: &str) -> io::Result<()>
-    ensures { OnOk result (Appends (W.contents output.old) (W.contents output.new) (line_of (label.now ++ word.now))) }
-{
-    writeln!(output, "{label}{word}")
-}
-
-/// Prints a number behind its label, on a line of its own.
-fn print_number<W: Write>(output: &mut W, label: &str, number: u128) -> io::Result<()>
-    ensures { OnOk result (Appends (W.contents output.old) (W.contents output.new) (line_of (label.now ++ decimal number))) }
-{
-    writeln!(output, "{label}{number}")
-}
-
 /// Prints a reply, on a line of its own.
 fn print_reply<W: Write>(output: &mut W, reply: Reply) -> io::Result<()>
     ensures { OnOk result (Appends (W.contents output.old) (W.contents output.new) (reply_text reply)) }
 {
     match reply {
-        Reply::Done => print_word(output, "done", ""),
-        Reply::Bit(bit) => print_word(output, "bit ", bit_word(bit)),
-        Reply::Count(count) => print_number(output, "count ", count as u128),
-        Reply::Index(Some(index)) => print_number(output, "index ", index as u128),
-        Reply::Index(None) => print_word(output, "index ", "none"),
-        Reply::Order(order) => print_word(output, "order ", order_word(order)),
-        Reply::Number(number) => print_number(output, "number ", number),
-        Reply::Refused(refusal) => print_word(output, "refused ", refusal_word(refusal)),
+        Reply::Done => output.write_all(b"done\n"),
+        Reply::Bit(bit) => writeln!(output, "bit {}", bit_word(bit)),
+        Reply::Count(count) => writeln!(output, "count {count}"),
+        Reply::Index(Some(index)) => writeln!(output, "index {index}"),
+        Reply::Index(None) => output.write_all(b"index none\n"),
+        Reply::Order(order) => writeln!(output, "order {}", order_word(order)),
+        Reply::Number(number) => writeln!(output, "number {number}"),
+        Reply::Refused(refusal) => writeln!(output, "refused {}", refusal_word(refusal)),
     }
 }
 
