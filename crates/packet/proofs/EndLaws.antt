@@ -1,8 +1,8 @@
 -- How the work ends.
-use Rattle.std.proofs.Common.{◌≡◌, ℕ, ◌⊎◌, List, length, Option, inl, inr, ⊎_elim, subst, arith}
+use Rattle.std.proofs.Common.{◌≡◌, ℕ, ◌⊎◌, ◌<◌, List, length, Option, inl, inr, ⊎_elim, subst, ap, arith}
 use Rattle.packet.specs.Arguments.{AreAssignments, Named}
 use Rattle.packet.specs.Packets.{Place, packet_fields}
-use Rattle.packet.specs.Program.{Ends, GivesPacket, HasFault, PacketFault, PrintsAsked, PrintsFields, ReadFault}
+use Rattle.packet.specs.Program.{Ends, GivesPacket, HasFault, PacketFault, PrintsAsked, PrintsFields, PrintsPacket, ReadFault}
 use Rattle.packet.specs.Resolved.{ChangesFault}
 use Rattle.packet.specs.declared.fault.Fault.{Fault}
 use Rattle.packet.specs.declared.fault.Fault.TheVariants.{Memory}
@@ -29,3 +29,10 @@ ends-fields words list old new before after status are none =
     ends-as (ReadFault old new) (HasFault words old new) before after status
     (λ shown. record { list = list; asked = are; fields = λ empty. shown; packet = λ some. absurd (omega arith) })
     (λ fault came. inr (inr (list, are, inl came)))
+
+pub ends-packet : (words : List (List ℕ)) (list : List Named) (old new before after : Option (List ℕ)) (status : ℕ) → AreAssignments words list → 0 < length list
+    → Ends (PrintsPacket list old new before after) (PacketFault list old new) before after status → Ends (PrintsAsked words old new before after) (HasFault words old new) before after status
+ends-packet words list old new before after status are some =
+    ends-as (PacketFault list old new) (HasFault words old new) before after status
+    (λ shown. record { list = list; asked = are; fields = λ empty. absurd (omega (arith, ap (λ (l : List Named). length l) empty)); packet = λ more. shown })
+    (λ fault came. inr (inr (list, are, came)))

@@ -1,6 +1,6 @@
 -- The fields and the words of a header.
-use Rattle.std.proofs.Common.{◌≡◌, ℕ, ◌+◌, ◌*◌, ◌<◌, ◌≤◌, ◌⊎◌, List, [], ◌++◌, get_or, length, take, sym, ap, ⊎_elim, ◌∙◌, arith}
-use Rattle.std.proofs.lemmas.List.{flat_map_more, get_or-map, length-map, take_more}
+use Rattle.std.proofs.Common.{◌≡◌, ℕ, ◌*◌, ◌<◌, ◌≤◌, ◌⊎◌, List, ◌++◌, get_or, length, sym, ap, ⊎_elim, ◌∙◌, arith}
+use Rattle.std.proofs.lemmas.List.{get_or-map}
 use Rattle.std.specs.List.{flat_map}
 use Rattle.std.proofs.lemmas.List.FromFn.{get_or-map-range_with_len, length-map-range_with_len}
 use Rattle.bitrecord.specs.Layouts.{IsLayout, field_at, no_field}
@@ -26,22 +26,11 @@ words-are count some most =
 pub header-words : {A : Type 0} (bytes : List ℕ) (header : Header A) → IsHeader bytes header → AreWords (header_windows bytes)
 header-words bytes header is = let least = is.least in let most = is.most in words-are (2 * header_length bytes) (omega arith) (omega arith)
 
--- a field that is read, and its line
-line-of : (bytes : List ℕ) (items : List Field) (n value : ℕ) (item : Field) → n < length items → item ≡ get_or items n item
-    → value ≡ number_at bytes (field_at (windows_of (places_of items)) n) → field_line (place item) value ≡ field_text bytes (place item)
-line-of bytes items n value item low is read =
-    ap (field_line (place item)) (read ∙ ap (number_at bytes) (window-at items n item low ∙ ap (λ (field : Field). field.window) (sym is)))
-
-pub lines-more : (bytes : List ℕ) (items : List Field) (n value : ℕ) (item : Field) → n < length items → item ≡ get_or items n item
-    → value ≡ number_at bytes (field_at (windows_of (places_of items)) n)
-    → flat_map (field_text bytes) (take (n + 1) (places_of items)) ≡ flat_map (field_text bytes) (take n (places_of items)) ++ field_line (place item) value
-lines-more bytes items n value item low is read =
-    let size = length-map items place in
-    let here : get_or (places_of items) n (place item) ≡ place item = get_or-map place items n item (place item) low ∙ ap place (sym is) in
-    ap (flat_map (field_text bytes)) (take_more (places_of items) n (place item) (omega arith))
-    ∙ sym (flat_map_more (field_text bytes) [] (take n (places_of items)) (get_or (places_of items) n (place item)))
-    ∙ ap (λ (field : Place). flat_map (field_text bytes) (take n (places_of items)) ++ field_text bytes field) here
-    ∙ ap (λ (line : List ℕ). flat_map (field_text bytes) (take n (places_of items)) ++ line) (sym (line-of bytes items n value item low is read))
+-- the line of a field that is read
+pub line-of : (bytes : List ℕ) (items : List Field) (n value : ℕ) (d : Field) → n < length items → value ≡ number_at bytes (field_at (windows_of (places_of items)) n)
+    → field_line (place (get_or items n d)) value ≡ field_text bytes (get_or (places_of items) n (place d))
+line-of bytes items n value d low read =
+    ap (field_line (place (get_or items n d))) (read ∙ ap (number_at bytes) (window-at items n d low)) ∙ sym (ap (field_text bytes) (get_or-map place items n d (place d) low))
 
 -- all that is printed
 pub text-of : (bytes : List ℕ) (places : List Place) (sum : ℕ) → places ≡ packet_fields bytes → sum ≡ sum_words (numbers_at bytes (header_windows bytes))

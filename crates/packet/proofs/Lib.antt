@@ -5,4 +5,5 @@ pub mod EndLaws
 pub mod HeaderLaws
 pub mod PlaceLaws
 pub mod SumLaws
+pub mod TextLaws
 pub mod WordLaws

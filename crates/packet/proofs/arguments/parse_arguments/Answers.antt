@@ -6,6 +6,11 @@ use Rattle.packet.specs.Arguments.{Named, named}
 use Rattle.packet.proofs.AssignmentLaws.{assignment-at, each-more, no-assignment}
 use Rattle.packet.proofs.arguments.parse_arguments.Goals as goal
 
+pub returns-then-words-ne0-clause-fault : goal.returns-then-words-ne0-clause-fault
+returns-then-words-ne0-clause-fault g c =
+    let many = length-map c.args.words.now string_bytes in
+    inr (refl, λ list are. let count = are.count in absurd (omega arith))
+
 pub returns-in-None-clause-fault : goal.returns-in-None-clause-fault
 returns-in-None-clause-fault g c =
     let many = length-map c.args.words.now string_bytes in
@@ -28,3 +33,9 @@ loop-number-preserved g c =
       each = λ k low. each-more (map string_bytes words) before one n (length-map c.loop-number.assignments.items named ∙ c.loop-number.invariant.count) c.loop-number.invariant.each here k low
           ∙ ap (λ (l : List Named). Some (get_or l k (record { name = []; value = 0 }))) (sym items);
     }
+
+pub returns-clause-assignments : goal.returns-clause-assignments
+returns-clause-assignments g c =
+    let many = length-map c.args.words.now string_bytes in
+    let count = length-map c.loop-number.assignments.items named in
+    record { count = omega arith; each = λ k low. c.loop-number.invariant.each k (omega arith) }

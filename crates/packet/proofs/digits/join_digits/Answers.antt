@@ -1,5 +1,7 @@
 use Rattle.std.proofs.Common.{ℕ, ◌+◌, ◌*◌, List, [], ◌∷◌, ◌++◌, get_or, ap, sym, ◌∙◌, arith}
 use Rattle.std.proofs.lemmas.Grind.{common_steps}
+use Rattle.std.proofs.lemmas.List.{take_all}
+use Rattle.packet.specs.Digits.{bytes_of}
 use Rattle.packet.proofs.DigitLaws.{bytes_of-more}
 use Rattle.packet.proofs.digits.join_digits.Goals as goal
 
@@ -11,3 +13,6 @@ loop-number-preserved g c =
           ∙ sym (bytes_of-more digits n (omega arith)),
       grind (arith, common_steps),
     )
+
+pub returns-clause-bytes : goal.returns-clause-bytes
+returns-clause-bytes g c = c.loop-number.invariant.0 ∙ ap bytes_of (take_all (2 * c.loop-number.number) c.args.digits.now (omega arith))

@@ -36,3 +36,9 @@ loop-index-preserved g c =
       each = λ k low. subst (λ (l : List Change). IsChange fields (asked_at list k) (get_or l k (record { number = 0; value = 0 }))) (sym c.in_ok-push.ensures.items)
           (each-change fields list c.loop-index.changes.items c.in_ok-change.change i c.loop-index.invariant.count c.loop-index.invariant.each one k low);
     }
+
+pub returns-clause-changes : goal.returns-clause-changes
+returns-clause-changes g c =
+    let many = length-map c.args.assignments.now named in
+    let count = c.loop-index.invariant.count in
+    record { count = omega arith; each = λ k low. c.loop-index.invariant.each k (omega arith) }

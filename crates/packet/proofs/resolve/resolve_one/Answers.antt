@@ -31,3 +31,6 @@ returns-clause-change c =
         fits = subst (λ (w : Window). c.args.assignment.value < 2 ^ w.len) (sym window) (c.fits.ensures.0 c.if-not-fits.false);
       };
     }
+
+pub bounds-fields-number : goal.bounds-fields-number
+bounds-fields-number c = place-below c.args.fields.now c.args.assignment.name.now c.in-Some.number (sym c.find_field.ensures ∙ c.in-Some.is)

@@ -36,3 +36,9 @@ returns-in-None-clause-fit g c =
 
 pub returns-clause-none : goal.returns-clause-none
 returns-clause-none g c = fit-none (seen c.args.places).bits c.args.count c.loop-start.start c.loop-start.invariant.before (omega arith)
+
+pub loop-start-smaller : goal.loop-start-smaller
+loop-start-smaller g c =
+    let found = ap (last_place true) (sym c.into_part.ensures.bits) ∙ sym c.last_one.ensures ∙ c.in-Some.is in
+    let within = last-within (seen c.args.places).bits c.loop-start.start (c.loop-start.start + c.args.count) c.in-Some.taken (omega arith) found in
+    omega arith
