@@ -7,25 +7,30 @@ use bitvec_engine::SliceOrder;
 use bitvec_query::BitQueries;
 use bitvec_slice::{BitSlice, BitSliceMut};
 
-/// Fills the bits `from` up to `to`, if there are as many.
-fn fill_range<O: SliceOrder>(elements: &mut [u8; 3], from: usize, to: usize) -> bool {
-    let mut view = BitSliceMut::<u8, O>::from_slice_mut(elements);
-    match view.get_mut(from..to) {
-        Some(mut part) => {
-            part.fill(true);
-            true
-        }
-        None => false,
+/// Three bytes of which the bits `from` up to `to` were filled, if there are as many.
+fn filled<O: SliceOrder>(from: usize, to: usize) -> [u8; 3] {
+    let mut elements = [0; 3];
+    if let Some(mut part) = BitSliceMut::<u8, O>::from_slice_mut(&mut elements).get_mut(from..to) {
+        part.fill(true);
     }
+    elements
 }
 
-/// Flips the bits 16 to 79, and of these flips 24 to 39 again.
-fn invert_twice(elements: &mut [u32; 3]) {
-    let view = BitSliceMut::<u32, Lsb0>::from_slice_mut(elements).into_part(16..80);
+/// Three elements of which the bits 16 to 79 were flipped, and of these flips 24 to 39 again.
+fn inverted_twice() -> [u32; 3] {
+    let mut elements = [0; 3];
+    let view = BitSliceMut::<u32, Lsb0>::from_slice_mut(&mut elements).into_part(16..80);
     let mut part = !view;
     if let Some(middle) = part.get_mut(24..40) {
         let _middle = !middle;
     }
+    elements
+}
+
+/// How many bits are 1, and how many are 0.
+fn counts(elements: &[u32; 3]) -> (usize, usize) {
+    let view = BitSlice::<u32, Lsb0>::from_slice(elements);
+    (view.count_ones(), view.count_zeros())
 }
 
 /// Fills the bits before an index, flips the second byte, and then sets its first bit.
@@ -110,16 +115,14 @@ fn five_bits_are_edited(rt: HostRuntime) {
 
 #[test]
 fn edits_of_parts_leave_the_neighbours(rt: HostRuntime) {
-    let mut filled = [[0u8; 3]; 3];
-    assert!(rt; fill_range::<Lsb0>(&mut filled[0], 3, 21));
-    assert!(rt; fill_range::<Msb0>(&mut filled[1], 3, 21));
-    assert!(rt; fill_range::<HiLo>(&mut filled[2], 0, 3));
-    assert!(rt; filled == [[0xF8, 0xFF, 0x1F], [0x1F, 0xFF, 0xF8], [0x70, 0, 0]]);
-    let mut elements = [0u32; 3];
-    invert_twice(&mut elements);
-    assert!(rt; elements == [0xFFFF_0000, 0xFF00_00FF, 0x0000_FFFF]);
-    let view = BitSlice::<u32, Lsb0>::from_slice(&elements);
-    assert!(rt; (view.count_ones(), view.count_zeros()) == (48, 48));
+    let by_order = [
+        filled::<Lsb0>(3, 21),
+        filled::<Msb0>(3, 21),
+        filled::<HiLo>(0, 3),
+    ];
+    assert!(rt; by_order == [[0xF8, 0xFF, 0x1F], [0x1F, 0xFF, 0xF8], [0x70, 0, 0]]);
+    let elements = inverted_twice();
+    assert!(rt; (elements, counts(&elements)) == ([0xFFFF_0000, 0xFF00_00FF, 0x0000_FFFF], (48, 48)));
     let mut edited = [0x00u8, 0x80];
     edit_parts(&mut edited, 10);
     assert!(rt; edited == [0xFF, 0x7D]);
