@@ -29,8 +29,7 @@ fn holds(made: Made, len: usize, elements: &[u8]) -> bool {
 fn is_kept(kind: usize, place: usize, bit: bool) -> bool {
     match kind {
         0 => true,
-        1 => bit || place % 3 == 0,
-        2 => place == 5,
+        1 => place == 5,
         _ => !bit,
     }
 }
@@ -52,7 +51,7 @@ fn stays_empty(bits: &mut Bytes) -> bool {
         bits.extend_from_bitslice(BitSlice::<u8, Lsb0>::empty())
             .is_ok(),
         bits.resize(0, true).is_ok(),
-        retains(bits, 3, &[]),
+        retains(bits, 2, &[]),
     ];
     nothing && none == [true; 5]
 }
@@ -64,21 +63,23 @@ fn takes_two(bits: &mut Bytes) -> bool {
     let is_second = bits.insert(end, true).is_ok();
     bits.truncate(5);
     let two = bits.as_raw_slice() == [3].as_slice();
-    if bits.len() != 2 {
+    if bits.is_empty() {
         return false;
     }
-    let (first, second) = (bits.remove(0), bits.swap_remove(0));
+    let first = bits.remove(0);
+    if bits.is_empty() {
+        return false;
+    }
+    let second = bits.swap_remove(0);
     [is_first, is_second, two, first, second, bits.is_empty()] == [true; 6]
 }
 
 /// Whether `retain` keeps all of some bits, then the ones and every third, the last one, and none.
 fn retains_all_or_none(bits: &mut Bytes) -> bool {
-    let kept = [
-        retains(bits, 0, &[0x65, 0x01]),
-        retains(bits, 1, &[0x3B]),
-        retains(bits, 2, &[0x01]),
-        retains(bits, 3, &[]),
-    ];
+    let all = retains(bits, 0, &[0x65, 0x01]);
+    bits.retain(|place, bit| *bit || place % 3 == 0);
+    let some = bits.as_raw_slice() == [0x3B].as_slice();
+    let kept = [all, some, retains(bits, 1, &[0x01]), retains(bits, 2, &[])];
     kept == [true; 4]
 }
 
