@@ -30,17 +30,31 @@ fn is_copied(alloc: Global, bits: &Bits) -> bool {
     }
 }
 
+/// Whether what an array is asked is so.
+fn answers(bits: &Bits) -> bool {
+    (bits.is_empty(), bits.len(), bits.iter().len(), walked(bits)) == (false, 16, 16, 0xA403)
+        && bits.window() == Window { start: 0, len: 16 }
+}
+
+/// The elements once they were put in the other order, and once their bits were flipped then.
+fn edited(mut bits: Bits) -> [[u8; 2]; 2] {
+    bits.as_raw_mut_slice().reverse();
+    let reversed = bits.into_inner();
+    let mut bits = Bits::new(reversed);
+    bits.as_mut_bitslice().invert();
+    [reversed, bits.into_inner()]
+}
+
 #[test]
 fn an_array_is_as_its_list(rt: HostRuntime) {
     let bits = Bits::new(ELEMENTS);
-    assert!(rt; !bits.is_empty() && bits.len() == 16 && bits.iter().len() == 16);
-    assert!(rt; bits.window() == Window { start: 0, len: 16 });
-    assert!(rt; walked(&bits) == 0xA403);
-    assert!(rt; is_copied(rt.alloc(), &bits));
-    assert!(rt; prints(rt.alloc(), &bits, TEXT) && shows(rt.alloc(), &bits, TEXT));
-    let mut bits = bits;
-    bits.as_raw_mut_slice().reverse();
-    assert!(rt; bits.as_raw_slice() == [0x03, 0xA4].as_slice());
-    bits.as_mut_bitslice().invert();
-    assert!(rt; bits.into_inner() == [0xFC, 0x5B]);
+    let are_so = [
+        answers(&bits),
+        is_copied(rt.alloc(), &bits),
+        prints(rt.alloc(), &bits, TEXT),
+        shows(rt.alloc(), &bits, TEXT),
+        bits.as_raw_slice() == ELEMENTS.as_slice(),
+    ];
+    assert!(rt; are_so == [true; 5]);
+    assert!(rt; edited(bits) == [[0x03, 0xA4], [0xFC, 0x5B]]);
 }

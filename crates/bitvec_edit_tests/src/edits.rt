@@ -1,5 +1,5 @@
 //! Edits of views: what the user's elements are afterwards, the bits outside the view among them.
-ghost use Rattle.std.specs.Prelude.{◌≤◌};
+ghost use Rattle.std.specs.Prelude.{◌≡◌, ◌≤◌};
 
 use bitvec_base::{HiLo, Lsb0, Msb0};
 use bitvec_edit::BitEdits;
@@ -7,25 +7,24 @@ use bitvec_engine::SliceOrder;
 use bitvec_query::BitQueries;
 use bitvec_slice::{BitSlice, BitSliceMut};
 
-/// Fills the bits `from` up to `to`, if there are as many.
-fn fill_range<O: SliceOrder>(elements: &mut [u8; 3], from: usize, to: usize) -> bool {
-    let mut view = BitSliceMut::<u8, O>::from_slice_mut(elements);
-    match view.get_mut(from..to) {
-        Some(mut part) => {
-            part.fill(true);
-            true
-        }
-        None => false,
+/// Three bytes of which the bits `from` up to `to` were filled, if there are as many.
+fn filled<O: SliceOrder>(from: usize, to: usize) -> [u8; 3] {
+    let mut elements = [0; 3];
+    if let Some(mut part) = BitSliceMut::<u8, O>::from_slice_mut(&mut elements).get_mut(from..to) {
+        part.fill(true);
     }
+    elements
 }
 
-/// Flips the bits 16 to 79, and of these flips 24 to 39 again.
-fn invert_twice(elements: &mut [u32; 3]) {
-    let view = BitSliceMut::<u32, Lsb0>::from_slice_mut(elements).into_part(16..80);
+/// Three elements of which the bits 16 to 79 were flipped, and of these flips 24 to 39 again.
+fn inverted_twice() -> [u32; 3] {
+    let mut elements = [0; 3];
+    let view = BitSliceMut::<u32, Lsb0>::from_slice_mut(&mut elements).into_part(16..80);
     let mut part = !view;
     if let Some(middle) = part.get_mut(24..40) {
         let _middle = !middle;
     }
+    elements
 }
 
 /// Fills the bits before an index, flips the second byte, and then sets its first bit.
@@ -43,15 +42,15 @@ fn edit_parts(elements: &mut [u8; 2], index: usize)
     }
 }
 
-/// Edits the first five bits, by one call a number.
-fn edit_five(bytes: &mut [u8; 1], kind: usize) {
-    let mut five = BitSliceMut::<u8, Lsb0>::from_slice_mut(bytes).into_part(0..5);
+/// Edits a view of five bits, by one call a number.
+fn edit_five<V: BitEdits<u8, Lsb0>>(five: &mut V, kind: usize)
+    requires { (V.shows five.old).window.len ≡ 5 }
+{
     match kind {
         0 => five.rotate_left(2),
         1 => five.rotate_right(2),
         2 => five.copy_within(5..5, 5),
         3 => five.swap(0, 4),
-        4 => five.part_mut(1..4).reverse(),
         5 => five.shift_start(5),
         6 => five.fill(true),
         7 => {
@@ -74,6 +73,16 @@ fn edit_five(bytes: &mut [u8; 1], kind: usize) {
         _ => {
             let _old = five.replace_unchecked(4, false);
         }
+    }
+}
+
+/// Edits the first five bits of a byte, or the middle three of them.
+fn edit_byte(bytes: &mut [u8; 1], kind: usize) {
+    let mut five = BitSliceMut::<u8, Lsb0>::from_slice_mut(bytes).into_part(0..5);
+    if kind == 4 {
+        five.part_mut(1..4).reverse();
+    } else {
+        edit_five(&mut five, kind);
     }
 }
 
@@ -103,20 +112,20 @@ fn five_bits_are_edited(rt: HostRuntime) {
         (19, 0xF9, 0xE9),
     ] {
         let mut bytes = [before];
-        edit_five(&mut bytes, kind);
+        edit_byte(&mut bytes, kind);
         assert!(rt; bytes == [after], "{kind}");
     }
 }
 
 #[test]
 fn edits_of_parts_leave_the_neighbours(rt: HostRuntime) {
-    let mut filled = [[0u8; 3]; 3];
-    assert!(rt; fill_range::<Lsb0>(&mut filled[0], 3, 21));
-    assert!(rt; fill_range::<Msb0>(&mut filled[1], 3, 21));
-    assert!(rt; fill_range::<HiLo>(&mut filled[2], 0, 3));
-    assert!(rt; filled == [[0xF8, 0xFF, 0x1F], [0x1F, 0xFF, 0xF8], [0x70, 0, 0]]);
-    let mut elements = [0u32; 3];
-    invert_twice(&mut elements);
+    let by_order = [
+        filled::<Lsb0>(3, 21),
+        filled::<Msb0>(3, 21),
+        filled::<HiLo>(0, 3),
+    ];
+    assert!(rt; by_order == [[0xF8, 0xFF, 0x1F], [0x1F, 0xFF, 0xF8], [0x70, 0, 0]]);
+    let elements = inverted_twice();
     assert!(rt; elements == [0xFFFF_0000, 0xFF00_00FF, 0x0000_FFFF]);
     let view = BitSlice::<u32, Lsb0>::from_slice(&elements);
     assert!(rt; (view.count_ones(), view.count_zeros()) == (48, 48));

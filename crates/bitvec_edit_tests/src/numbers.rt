@@ -16,20 +16,29 @@ fn load_middle<O: FieldOrder>(bytes: &[u8; 2], le: bool) -> u8 {
     }
 }
 
+/// What a view of four bits is read as from either end, and one of two bits with and without a sign.
+fn load_few(bytes: &[u8; 1]) -> (u8, u8, u8, i8) {
+    let view = BitSlice::<u8, Lsb0>::from_slice(bytes);
+    let (four, two) = (view.into_part(2..6), view.into_part(3..5));
+    (
+        four.load_le::<u8>(),
+        four.load_be::<u8>(),
+        two.load_le::<u8>(),
+        two.load_le::<i8>(),
+    )
+}
+
 #[test]
 fn a_number_is_read_from_either_end(rt: HostRuntime) {
     let elements = [0xB4u8, 0x6E];
-    for (le, by_lsb0, by_msb0) in [(true, 0xEB, 0x64), (false, 0xBE, 0x46)] {
-        let found = [
-            load_middle::<Lsb0>(&elements, le),
-            load_middle::<Msb0>(&elements, le),
-        ];
-        assert!(rt; found == [by_lsb0, by_msb0]);
-    }
-    let part = BitSlice::<u8, Lsb0>::from_slice(&[0xB4]).into_part(2..6);
-    assert!(rt; (part.load_le::<u8>(), part.load_be::<u8>()) == (0xD, 0xD));
-    let two = BitSlice::<u8, Lsb0>::from_slice(&[0x06]).into_part(1..3);
-    assert!(rt; (two.load_le::<u8>(), two.load_le::<i8>()) == (3, -1));
+    let found = [
+        load_middle::<Lsb0>(&elements, true),
+        load_middle::<Lsb0>(&elements, false),
+        load_middle::<Msb0>(&elements, true),
+        load_middle::<Msb0>(&elements, false),
+    ];
+    assert!(rt; found == [0xEB, 0xBE, 0x64, 0x46]);
+    assert!(rt; load_few(&[0xB4]) == (0xD, 0xD, 2, -2));
 }
 
 /// Stores a negative number in the bits 6 up to 10, `le` or else `be`, and gives what is loaded then.
@@ -68,10 +77,19 @@ fn through_seven_bits<I: Integral>(value: I) -> I
 
 #[test]
 fn integers_of_each_type_keep_their_lowest_bits(rt: HostRuntime) {
-    assert!(rt; through_seven_bits::<u8>(200) == 72 && through_seven_bits::<u16>(200) == 72);
-    assert!(rt; through_seven_bits::<u32>(200) == 72 && through_seven_bits::<u64>(200) == 72);
-    assert!(rt; through_seven_bits::<u128>(200) == 72 && through_seven_bits::<usize>(200) == 72);
-    assert!(rt; through_seven_bits::<i8>(-50) == -50 && through_seven_bits::<i16>(-50) == -50);
-    assert!(rt; through_seven_bits::<i32>(-50) == -50 && through_seven_bits::<i64>(-50) == -50);
-    assert!(rt; through_seven_bits::<i128>(-50) == -50 && through_seven_bits::<isize>(-50) == -50);
+    let are_kept = [
+        through_seven_bits::<u8>(200) == 72,
+        through_seven_bits::<u16>(200) == 72,
+        through_seven_bits::<u32>(200) == 72,
+        through_seven_bits::<u64>(200) == 72,
+        through_seven_bits::<u128>(200) == 72,
+        through_seven_bits::<usize>(200) == 72,
+        through_seven_bits::<i8>(-50) == -50,
+        through_seven_bits::<i16>(-50) == -50,
+        through_seven_bits::<i32>(-50) == -50,
+        through_seven_bits::<i64>(-50) == -50,
+        through_seven_bits::<i128>(-50) == -50,
+        through_seven_bits::<isize>(-50) == -50,
+    ];
+    assert!(rt; are_kept == [true; 12]);
 }

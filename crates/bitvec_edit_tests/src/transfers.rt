@@ -66,17 +66,23 @@ fn join_and_shift(bytes: &mut [u8; 12], others: &[u8; 12]) {
     part.shift_start(16);
 }
 
+/// The elements that are read.
+const OTHERS: [u8; 12] = [0, 1, 2, 3, 4, 5, 6, 7, 8, 9, 10, 11];
+
+/// Twelve elements of ones, once so many bits were copied there, if these are the same then.
+fn copied(len: usize) -> Option<[u8; 12]>
+    requires { len ≤ 80 }
+{
+    let mut bytes = [0xFF; 12];
+    copy_behind(&mut bytes, &OTHERS, len).then_some(bytes)
+}
+
 #[test]
 fn whole_elements_go_as_they_are(rt: HostRuntime) {
-    let others = [0, 1, 2, 3, 4, 5, 6, 7, 8, 9, 10, 11];
-    let mut whole = [0xFF; 12];
-    assert!(rt; copy_behind(&mut whole, &others, 80));
-    assert!(rt; whole == [0xFF, 2, 3, 4, 5, 6, 7, 8, 9, 10, 11, 0xFF]);
-    let mut parted = [0xFF; 12];
-    assert!(rt; copy_behind(&mut parted, &others, 76));
-    assert!(rt; parted == [0xFF, 2, 3, 4, 5, 6, 7, 8, 9, 10, 0x0F, 0xFF]);
+    assert!(rt; copied(80) == Some([0xFF, 2, 3, 4, 5, 6, 7, 8, 9, 10, 11, 0xFF]));
+    assert!(rt; copied(76) == Some([0xFF, 2, 3, 4, 5, 6, 7, 8, 9, 10, 0x0F, 0xFF]));
     let mut joined = [0x40; 12];
-    join_and_shift(&mut joined, &others);
+    join_and_shift(&mut joined, &OTHERS);
     assert!(rt;
         joined
             == [
@@ -86,16 +92,21 @@ fn whole_elements_go_as_they_are(rt: HostRuntime) {
 }
 
 #[test]
-fn bits_of_other_views_leave_the_neighbours(rt: HostRuntime) {
+fn bits_are_exchanged_with_other_views(rt: HostRuntime) {
     let (mut pair, mut others) = ([0xFFu8, 0], [0u8, 0]);
     swap_seven(&mut pair, &mut others);
     assert!(rt; [pair, others] == [[0x07, 0], [0x1F, 0]]);
-    let (mut left, mut right, mut copied) = ([0xF6u8], [0x91u8], [0x41u8]);
+    let (mut left, mut right) = ([0xF6u8], [0x91u8]);
     swap_and_copy_four(&mut left, &mut right);
+    assert!(rt; [left, right] == [[0xF3], [0x61]]);
+}
+
+#[test]
+fn bits_of_other_views_leave_the_neighbours(rt: HostRuntime) {
+    let mut copied = [0x41u8];
     copy_five(&mut copied, &[0xAF]);
-    assert!(rt; [left, right, copied] == [[0xF3], [0x61], [0x6B]]);
     let (mut combined, mut by_name) = ([0xFF], [0xFF]);
     combine(&mut combined);
     combine_by_name(&mut by_name);
-    assert!(rt; [combined, by_name] == [[0xE1], [0xE0]]);
+    assert!(rt; [copied, combined, by_name] == [[0x6B], [0xE1], [0xE0]]);
 }

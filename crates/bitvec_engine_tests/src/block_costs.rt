@@ -26,22 +26,65 @@ pub fn copy_in_steps<O: ByWords, C: Cells, D: CellsRead<Elem = C::Elem>>(
     O::block_copy::<C, D>(left, to, right, from);
 }
 
-/// Copies 64 bits of a pair of elements to another, and gives the loads and stores there, and the loads of the first.
-fn copy(left: &mut [u64; 2], right: &mut [u64; 2]) -> [u64; 3] {
+/// Exchanges two windows, if this is asked, or else copies the right one.
+fn carry_out<C: Cells>(left: &mut C, to: Window, right: &mut C, from: Window, exchanges: bool)
+    requires window { HasWindow C.Elem.BITS (C.numbers left.old) to }
+    requires right_window { HasWindow C.Elem.BITS (C.numbers right.old) from }
+    requires lengths { to.len ≡ from.len }
+{
+    if exchanges {
+        Lsb0::block_swap(left, to, right, from);
+    } else {
+        copy_in_steps::<Lsb0, _, _>(left, to, right, from);
+    }
+}
+
+/// Exchanges 64 bits of two pairs of elements, or copies those of the right one, and gives the loads and stores of each side.
+fn counts(left: &mut [u64; 2], right: &mut [u64; 2], exchanges: bool) -> [u64; 4] {
     let mut cells = Counted::new(Exclusive::new(left));
     let mut others = Counted::new(Exclusive::new(right));
-    let window = Window { start: 3, len: 64 };
-    let other = Window { start: 5, len: 64 };
-    copy_in_steps::<Lsb0, _, _>(&mut cells, window, &mut others, other);
-    [cells.loads(), cells.stores(), others.loads()]
+    let to = Window { start: 3, len: 64 };
+    let from = Window { start: 5, len: 64 };
+    carry_out(&mut cells, to, &mut others, from, exchanges);
+    [
+        cells.loads(),
+        cells.stores(),
+        others.loads(),
+        others.stores(),
+    ]
+}
+
+/// Whether none of the counts is above its most.
+fn are_at_most(counts: [u64; 4], most: [u64; 4]) -> bool {
+    counts[0] <= most[0] && counts[1] <= most[1] && counts[2] <= most[2] && counts[3] <= most[3]
 }
 
 #[test]
-fn a_copy_goes_by_words(rt: HostRuntime) {
-    let mut left = [0, u64::MAX];
-    let [loads, stores, other_loads] = copy(&mut left, &mut [u64::MAX, 0x16]);
-    assert!(rt; loads <= 4 && stores <= 2 && other_loads <= 2);
-    assert!(rt; left == [0xBFFF_FFFF_FFFF_FFF8, 0xFFFF_FFFF_FFFF_FFFD]);
+fn a_copy_and_an_exchange_go_by_words(rt: HostRuntime) {
+    for (exchanges, pairs, most, after) in [
+        (
+            false,
+            [[0, u64::MAX], [u64::MAX, 0x16]],
+            [4, 2, 2, 0],
+            [
+                [0xBFFF_FFFF_FFFF_FFF8, 0xFFFF_FFFF_FFFF_FFFD],
+                [u64::MAX, 0x16],
+            ],
+        ),
+        (
+            true,
+            [[u64::MAX, 0], [0, u64::MAX]],
+            [4, 2, 4, 2],
+            [
+                [0xC000_0000_0000_0007, 0x7],
+                [0xFFFF_FFFF_FFFF_FFE0, 0xFFFF_FFFF_FFFF_FFE3],
+            ],
+        ),
+    ] {
+        let [mut left, mut right] = pairs;
+        let counts = counts(&mut left, &mut right, exchanges);
+        assert!(rt; are_at_most(counts, most) && [left, right] == after);
+    }
 }
 
 /// How many loads and stores are counted of one each.
@@ -55,29 +98,4 @@ fn counted(bytes: &mut [u8; 3]) -> (u64, u64) {
 #[test]
 fn a_counted_accessor_tallies_each_call(rt: HostRuntime) {
     assert!(rt; counted(&mut [1, 2, 3]) == (1, 1));
-}
-
-/// Exchanges 64 bits of two pairs of elements, and gives the loads and stores of each side.
-fn exchange(left: &mut [u64; 2], right: &mut [u64; 2]) -> [u64; 4] {
-    let mut cells = Counted::new(Exclusive::new(left));
-    let mut others = Counted::new(Exclusive::new(right));
-    let window = Window { start: 3, len: 64 };
-    let other = Window { start: 5, len: 64 };
-    Lsb0::block_swap(&mut cells, window, &mut others, other);
-    [
-        cells.loads(),
-        cells.stores(),
-        others.loads(),
-        others.stores(),
-    ]
-}
-
-#[test]
-fn an_exchange_goes_by_words(rt: HostRuntime) {
-    let mut left = [u64::MAX, 0];
-    let mut right = [0, u64::MAX];
-    let [loads, stores, other_loads, other_stores] = exchange(&mut left, &mut right);
-    assert!(rt; loads <= 4 && stores <= 2 && other_loads <= 4 && other_stores <= 2);
-    assert!(rt; left == [0xC000_0000_0000_0007, 0x7]);
-    assert!(rt; right == [0xFFFF_FFFF_FFFF_FFE0, 0xFFFF_FFFF_FFFF_FFE3]);
 }

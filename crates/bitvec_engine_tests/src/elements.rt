@@ -148,28 +148,63 @@ fn exchanged<T: BitStore>(elements: &mut [T], word: u64) -> u64
     old
 }
 
+/// Whether bytes are loaded by a word and stored so.
+fn bytes_agree() -> bool {
+    let mut bytes = [0x11u8, 0x22, 0x33, 0x44, 0x55, 0x66, 0x77, 0x88, 0x99];
+    exchanged(&mut bytes, 0xF8E7_D6C5_B4A3_9281) == 0x8877_6655_4433_2211
+        && bytes == [0x81, 0x92, 0xA3, 0xB4, 0xC5, 0xD6, 0xE7, 0xF8, 0x99]
+}
+
+/// Whether elements of 16 bits are.
+fn shorts_agree() -> bool {
+    let mut shorts = [0x1122u16, 0x3344, 0x5566, 0x7788, 0x99AA];
+    exchanged(&mut shorts, 0xF8E7_D6C5_B4A3_9281) == 0x7788_5566_3344_1122
+        && shorts == [0x9281, 0xB4A3, 0xD6C5, 0xF8E7, 0x99AA]
+}
+
+/// Whether elements of 32 bits are.
+fn halves_agree() -> bool {
+    let mut halves = [0x1122_3344u32, 0x5566_7788, 0x99AA_BBCC];
+    exchanged(&mut halves, 0xF8E7_D6C5_B4A3_9281) == 0x5566_7788_1122_3344
+        && halves == [0xB4A3_9281, 0xF8E7_D6C5, 0x99AA_BBCC]
+}
+
+/// Whether words are.
+fn words_agree() -> bool {
+    let mut words = [0x1122_3344_5566_7788u64, 2];
+    exchanged(&mut words, 3) == 0x1122_3344_5566_7788 && words == [3, 2]
+}
+
+/// Whether elements of the machine's size are.
+fn sizes_agree() -> bool {
+    let mut sizes = [4usize, 5];
+    exchanged(&mut sizes, 6) == 4 && sizes == [6, 5]
+}
+
+/// Whether an element that is wider than a word is left, and gives no bits.
+fn a_wide_element_is_left() -> bool {
+    let mut wide = [7u128];
+    exchanged(&mut wide, 8) == 0 && wide == [7]
+}
+
+/// Whether elements of a type of these tests are loaded by a word and stored so.
+fn tallies_agree() -> bool {
+    let mut tallies = [Tally::from_u128(9), Tally::from_u128(10)];
+    let old = exchanged(&mut tallies, 11);
+    let [first, second] = tallies;
+    (old, first.to_u128(), second.to_u128()) == (9, 11, 10)
+}
+
 #[test]
 fn elements_are_loaded_by_words(rt: HostRuntime) {
-    let mut bytes = [0x11u8, 0x22, 0x33, 0x44, 0x55, 0x66, 0x77, 0x88, 0x99];
-    assert!(rt; exchanged(&mut bytes, 0xF8E7_D6C5_B4A3_9281) == 0x8877_6655_4433_2211);
-    assert!(rt; bytes == [0x81, 0x92, 0xA3, 0xB4, 0xC5, 0xD6, 0xE7, 0xF8, 0x99]);
-    let mut shorts = [0x1122u16, 0x3344, 0x5566, 0x7788, 0x99AA];
-    assert!(rt; exchanged(&mut shorts, 0xF8E7_D6C5_B4A3_9281) == 0x7788_5566_3344_1122);
-    assert!(rt; shorts == [0x9281, 0xB4A3, 0xD6C5, 0xF8E7, 0x99AA]);
-    let mut halves = [0x1122_3344u32, 0x5566_7788, 0x99AA_BBCC];
-    assert!(rt; exchanged(&mut halves, 0xF8E7_D6C5_B4A3_9281) == 0x5566_7788_1122_3344);
-    assert!(rt; halves == [0xB4A3_9281, 0xF8E7_D6C5, 0x99AA_BBCC]);
-    let mut words = [0x1122_3344_5566_7788u64, 2];
-    assert!(rt; exchanged(&mut words, 3) == 0x1122_3344_5566_7788);
-    assert!(rt; words == [3, 2]);
-    let mut sizes = [4usize, 5];
-    assert!(rt; exchanged(&mut sizes, 6) == 4);
-    assert!(rt; sizes == [6, 5]);
-    let mut wide = [7u128];
-    assert!(rt; exchanged(&mut wide, 8) == 0);
-    assert!(rt; wide == [7]);
-    let mut tallies = [Tally::from_u128(9), Tally::from_u128(10)];
-    assert!(rt; exchanged(&mut tallies, 11) == 9);
-    let [first, second] = tallies;
-    assert!(rt; [first.to_u128(), second.to_u128()] == [11, 10]);
+    let agree = [
+        bytes_agree(),
+        shorts_agree(),
+        halves_agree(),
+        words_agree(),
+        sizes_agree(),
+        a_wide_element_is_left(),
+        tallies_agree(),
+    ];
+    assert!(rt; agree == [true; 7]);
 }

@@ -65,18 +65,14 @@ const RIGHT: Window = Window {
 };
 
 /// Carries a command out on the left window and the right one, if the memories have these, and says so.
-fn carry_out<O: SliceOrder, C: Cells, D: Cells + CellsRead<Elem = C::Elem>>(
-    command: Command,
-    left: &mut C,
-    right: &mut D,
-) -> bool {
+fn carry_out<O: SliceOrder, C: Cells>(command: Command, left: &mut C, right: &mut C) -> bool {
     if !has_window(left, LEFT) || !has_window(right, RIGHT) {
         return false;
     }
     match command {
-        Command::Copy => O::block_copy::<C, D>(left, LEFT, right, RIGHT),
-        Command::Swap => O::block_swap::<C, D>(left, LEFT, right, RIGHT),
-        Command::Or => O::block_op::<C, D>(left, LEFT, right, RIGHT, BitOp::Or),
+        Command::Copy => O::block_copy::<C, C>(left, LEFT, right, RIGHT),
+        Command::Swap => O::block_swap::<C, C>(left, LEFT, right, RIGHT),
+        Command::Or => O::block_op::<C, C>(left, LEFT, right, RIGHT, BitOp::Or),
     }
     true
 }
@@ -93,7 +89,7 @@ fn operations_of<O: SliceOrder>(command: Command) -> (bool, u64, u64) {
         inner: Exclusive::new(&mut ones),
         operations: 0,
     };
-    let is_done = carry_out::<O, _, _>(command, &mut left, &mut right);
+    let is_done = carry_out::<O, _>(command, &mut left, &mut right);
     (is_done, left.operations, right.operations)
 }
 

@@ -2,7 +2,6 @@
 use bitdo_work::work;
 use std::alloc::{Allocator, Global};
 use std::io::{Read, Write};
-use std::process::Abort;
 
 /// Adds a word to a list. The answer is whether there was memory.
 fn add_word(alloc: Global, words: &mut Vec<String>, word: &str) -> bool {
@@ -33,20 +32,15 @@ pub(crate) fn status<A: Allocator + Clone + Drop, R: Read, W: Write>(
     work(alloc, args, input, output)
 }
 
-/// Whether `work` prints so on these arguments and this input, and ends with that status.
-fn works<I: Read>(alloc: Global, args: &str, input: &mut I, ended: u8, printed: &[u8]) -> bool {
-    let args = words(alloc, args);
-    let mut output = Vec::new(alloc);
-    status(alloc, args.as_slice(), input, &mut output) == ended && output.as_slice() == printed
-}
-
-/// Asserts what `work` prints on these arguments and this reader's input, and its status.
-pub(crate) fn expect_read<R: Abort + AllocGlobal, I: Read>(
-    rt: &R,
+/// Whether `work` prints so on these arguments and this reader's input, and ends with that status.
+pub(crate) fn works<I: Read>(
+    alloc: Global,
     args: &str,
     input: &mut I,
     ended: u8,
     printed: &[u8],
-) {
-    assert!(rt; works(rt.alloc(), args, input, ended, printed), "on {args}");
+) -> bool {
+    let args = words(alloc, args);
+    let mut output = Vec::new(alloc);
+    status(alloc, args.as_slice(), input, &mut output) == ended && output.as_slice() == printed
 }

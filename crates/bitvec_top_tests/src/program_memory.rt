@@ -1,7 +1,7 @@
 //! How often a run of the program asks for memory.
 use crate::program::{status, words};
 use bitvec_test_support::Refusing;
-use std::process::Abort;
+use std::alloc::Global;
 
 /// A memory of nine bytes and a right one of two.
 const ARGS: &str = "8 lsb0 01,02,03,04,05,06,07,08,09 FF,0F 0 72";
@@ -15,55 +15,54 @@ fn add_lines(text: &mut Vec<u8>, line: &[u8], lines: usize) -> bool {
     is_made
 }
 
-/// Whether a run that is granted so many requests for memory makes no more. Asserts what it prints then, and
-/// that else it tells that memory ran out, and its status.
-fn is_enough<R: Abort + AllocGlobal>(
-    rt: &R,
+/// Whether a run that is granted so many requests for memory makes no more; nothing where it doesn't print so then, and tell
+/// else that memory ran out, by its status.
+fn is_enough(
+    alloc: Global,
     args: &[String],
     input: &[u8],
     requests: u64,
     printed: &[u8],
-) -> bool {
-    let refusing = Refusing::new(rt.alloc(), requests);
+) -> Option<bool> {
+    let refusing = Refusing::new(alloc, requests);
     let mut bytes = input;
-    let mut output = Vec::new(rt.alloc());
+    let mut output = Vec::new(alloc);
     let got = status(&refusing, args, &mut bytes, &mut output);
-    let (ended, printed) = if refusing.granted_all() {
+    let is_enough = refusing.granted_all();
+    let (ended, printed) = if is_enough {
         (0, printed)
     } else {
         (3, b"run error: memory\n".as_slice())
     };
-    assert!(rt;
-        got == ended && output.as_slice() == printed,
-        "after {requests}"
-    );
-    ended == 0
+    (got == ended && output.as_slice() == printed).then_some(is_enough)
 }
 
 /// The least number of requests below 100 that a run needs, which prints so, if one is enough.
-fn least_requests<R: Abort + AllocGlobal>(
-    rt: &R,
-    args: &str,
-    input: &[u8],
-    printed: &[u8],
-) -> Option<u64> {
-    let args = words(rt.alloc(), args);
+fn least_requests(alloc: Global, args: &str, input: &[u8], printed: &[u8]) -> Option<u64> {
+    let args = words(alloc, args);
     for requests in 0..100 {
-        if is_enough(rt, args.as_slice(), input, requests, printed) {
-            return Some(requests);
+        match is_enough(alloc, args.as_slice(), input, requests, printed) {
+            Some(true) => return Some(requests),
+            Some(false) => {}
+            None => return None,
         }
     }
     None
 }
 
 /// The least number of requests that a run of so many lines needs, which count the first byte's ones.
-fn needed<R: Abort + AllocGlobal>(rt: &R, lines: usize) -> Option<u64> {
-    let mut input = Vec::new(rt.alloc());
-    let mut printed = Vec::new(rt.alloc());
-    assert!(rt; add_lines(&mut input, b"0 8 count_ones\n", lines));
-    assert!(rt; add_lines(&mut printed, b"count 1\n", lines));
-    assert!(rt; add_lines(&mut printed, b"= 01,02,03,04,05,06,07,08,09\n", 1));
-    least_requests(rt, ARGS, input.as_slice(), printed.as_slice())
+fn needed(alloc: Global, lines: usize) -> Option<u64> {
+    let mut input = Vec::new(alloc);
+    let mut printed = Vec::new(alloc);
+    let is_made = [
+        add_lines(&mut input, b"0 8 count_ones\n", lines),
+        add_lines(&mut printed, b"count 1\n", lines),
+        add_lines(&mut printed, b"= 01,02,03,04,05,06,07,08,09\n", 1),
+    ];
+    if is_made != [true; 3] {
+        return None;
+    }
+    least_requests(alloc, ARGS, input.as_slice(), printed.as_slice())
 }
 
 // A list that is pushed to has room for eight bytes or four larger values at first, and then for twice as
@@ -79,6 +78,9 @@ fn each_list_is_asked_for_as_often_as_it_doubles(rt: HostRuntime) {
         (5, 2 + 1 + 1 + 2 + 1),
         (500, 2 + 1 + 4 + 8 + 1),
     ] {
-        assert!(rt; needed(&rt, lines) == Some(requests), "of {lines} lines");
+        assert!(rt;
+            needed(rt.alloc(), lines) == Some(requests),
+            "of {lines} lines"
+        );
     }
 }

@@ -6,7 +6,6 @@ use bitvec_commands::Op;
 use bitvec_run::run;
 use bitvec_test_support::Counted;
 use std::alloc::Global;
-use std::process::Abort;
 
 /// The bytes of the window.
 fn ones() -> [u8; 512] {
@@ -39,11 +38,6 @@ fn takes(alloc: Global, row: StepRow, most: (u64, u64, u64)) -> bool {
         && right.stores() == 0
 }
 
-/// A run of one step, and the most that it takes.
-fn check<R: Abort + AllocGlobal>(rt: &R, row: StepRow, most: (u64, u64, u64)) {
-    assert!(rt; takes(rt.alloc(), row, most), "{row:?}");
-}
-
 #[test]
 fn a_query_loads_each_element_once(rt: HostRuntime) {
     for (row, most) in [
@@ -56,7 +50,7 @@ fn a_query_loads_each_element_once(rt: HostRuntime) {
         ((67, 75, Op::All), (2, 0, 0)),
         ((60, 80, Op::Get(19)), (1, 0, 0)),
     ] {
-        check(&rt, row, most);
+        assert!(rt; takes(rt.alloc(), row, most), "{row:?}");
     }
 }
 
@@ -80,7 +74,7 @@ fn an_edit_takes_few_loads_and_stores(rt: HostRuntime) {
         ((67, 83, Op::RotateRight(4)), (66, 54, 0)),
         ((67, 83, Op::CopyWithin(0, 8, 4)), (11, 9, 0)),
     ] {
-        check(&rt, row, most);
+        assert!(rt; takes(rt.alloc(), row, most), "{row:?}");
     }
 }
 
@@ -100,7 +94,7 @@ fn a_right_window_takes_few_loads(rt: HostRuntime) {
         ((67, 83, Op::Contains(right_bits(8))), (81, 0, 81)),
         ((67, 83, Op::Contains(right_bits(24))), (0, 0, 0)),
     ] {
-        check(&rt, row, most);
+        assert!(rt; takes(rt.alloc(), row, most), "{row:?}");
     }
 }
 
@@ -119,6 +113,6 @@ fn a_refused_step_costs_nothing(rt: HostRuntime) {
         (60, 80, Op::And(right_bits(30))),
         (60, 80, Op::Contains(right_bits(30))),
     ] {
-        check(&rt, row, (0, 0, 0));
+        assert!(rt; takes(rt.alloc(), row, (0, 0, 0)), "{row:?}");
     }
 }

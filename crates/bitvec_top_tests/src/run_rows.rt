@@ -5,7 +5,7 @@ use bitvec_commands::{Op, Refusal, Reply};
 use bitvec_engine::SliceOrder;
 use bitvec_run::{RunError, Step};
 use bitvec_store::BitStore;
-use std::process::Abort;
+use std::alloc::Global;
 
 #[derive(Drop)]
 struct Row<'a> {
@@ -24,34 +24,35 @@ fn replies_so(replies: Result<Vec<Reply>, RunError>, wanted: &[Reply]) -> bool {
     }
 }
 
-fn check<O: SliceOrder, R: Abort + AllocGlobal>(rt: &R, elements: &mut [u8], row: &Row) {
-    let replies = answer::<u8, O, _>(rt.alloc(), elements, row.window, row.right, row.steps);
-    assert!(rt; replies_so(replies, row.replies));
-    assert!(rt; &*elements == row.after);
+/// Whether a run was made, replies as a row says, and leaves these elements.
+fn agrees<O: SliceOrder>(alloc: Global, elements: &mut [u8], row: &Row) -> bool {
+    let replies = answer::<u8, O, _>(alloc, elements, row.window, row.right, row.steps);
+    replies_so(replies, row.replies) && &*elements == row.after
 }
 
-/// The row of four nibbles in elements that are zero, and the numbers that it leaves there.
-fn check_four_nibbles<T: BitStore, R: Abort + AllocGlobal>(
-    rt: &R,
-    elements: &mut [T],
-    after: &[u128],
-) {
-    let window = Window { start: 0, len: 16 };
-    let replies = answer::<T, Lsb0, _>(rt.alloc(), elements, window, &[], &four_nibbles());
-    assert!(rt; replies_so(replies, &FOUR_NIBBLES_REPLIES));
-    assert!(rt; elements.len() == after.len());
-    for (element, number) in elements.iter().zip(after) {
-        assert!(rt; element.to_u128() == *number);
+/// Whether elements have these numbers.
+fn are<T: BitStore>(elements: &[T], numbers: &[u128]) -> bool {
+    let mut agree = elements.len() == numbers.len();
+    for (element, number) in elements.iter().zip(numbers) {
+        agree &= element.to_u128() == *number;
     }
+    agree
+}
+
+/// Whether the row of four nibbles replies so in elements that are zero, and leaves these numbers there.
+fn four_nibbles_agree<T: BitStore>(alloc: Global, elements: &mut [T], after: &[u128]) -> bool {
+    let window = Window { start: 0, len: 16 };
+    let replies = answer::<T, Lsb0, _>(alloc, elements, window, &[], &four_nibbles());
+    replies_so(replies, &FOUR_NIBBLES_REPLIES) && are(elements, after)
 }
 
 #[test]
 fn a_bit_of_each_nibble_is_set_and_counted(rt: HostRuntime) {
-    check_four_nibbles(&rt, &mut [0u8, 0], &[0x21, 0x84]);
-    check_four_nibbles(&rt, &mut [0u16], &[0x8421]);
-    check_four_nibbles(&rt, &mut [0u32, 0], &[0x8421, 0]);
-    check_four_nibbles(&rt, &mut [0u64], &[0x8421]);
-    check_four_nibbles(&rt, &mut [0usize, 0], &[0x8421, 0]);
+    assert!(rt; four_nibbles_agree(rt.alloc(), &mut [0u8, 0], &[0x21, 0x84]));
+    assert!(rt; four_nibbles_agree(rt.alloc(), &mut [0u16], &[0x8421]));
+    assert!(rt; four_nibbles_agree(rt.alloc(), &mut [0u32, 0], &[0x8421, 0]));
+    assert!(rt; four_nibbles_agree(rt.alloc(), &mut [0u64], &[0x8421]));
+    assert!(rt; four_nibbles_agree(rt.alloc(), &mut [0usize, 0], &[0x8421, 0]));
 }
 
 #[test]
@@ -77,7 +78,7 @@ fn a_refused_step_changes_nothing_and_the_next_follows(rt: HostRuntime) {
         ],
         after: &[0xFF],
     };
-    check::<Lsb0, _>(&rt, &mut [0xFF], &row);
+    assert!(rt; agrees::<Lsb0>(rt.alloc(), &mut [0xFF], &row));
 }
 
 #[test]
@@ -91,8 +92,12 @@ fn places_follow_the_order(rt: HostRuntime) {
             replies: &[Reply::Bit(bit)],
             after: &[0xA5],
         };
-        check::<HiLo, _>(&rt, &mut [0xA5], &row);
+        assert!(rt; agrees::<HiLo>(rt.alloc(), &mut [0xA5], &row));
     }
+}
+
+#[test]
+fn the_first_place_of_an_order_is_read(rt: HostRuntime) {
     let row = Row {
         window: Window { start: 0, len: 8 },
         right: &[],
@@ -100,7 +105,7 @@ fn places_follow_the_order(rt: HostRuntime) {
         replies: &[Reply::Bit(true)],
         after: &[0x10],
     };
-    check::<HiLo, _>(&rt, &mut [0x10], &row);
+    assert!(rt; agrees::<HiLo>(rt.alloc(), &mut [0x10], &row));
 }
 
 #[test]
@@ -112,7 +117,7 @@ fn a_memory_may_be_empty_and_a_window_may_lie_at_its_end(rt: HostRuntime) {
         replies: &[Reply::Count(0), Reply::Refused(Refusal::Range)],
         after: &[],
     };
-    check::<Lsb0, _>(&rt, &mut [], &empty);
+    assert!(rt; agrees::<Lsb0>(rt.alloc(), &mut [], &empty));
     let end = Row {
         window: Window { start: 16, len: 0 },
         right: &[],
@@ -120,5 +125,5 @@ fn a_memory_may_be_empty_and_a_window_may_lie_at_its_end(rt: HostRuntime) {
         replies: &[Reply::Count(0)],
         after: &[0x5A, 0xC3],
     };
-    check::<Lsb0, _>(&rt, &mut [0x5A, 0xC3], &end);
+    assert!(rt; agrees::<Lsb0>(rt.alloc(), &mut [0x5A, 0xC3], &end));
 }

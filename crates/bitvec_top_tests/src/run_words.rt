@@ -7,8 +7,7 @@ use bitvec_engine::SliceOrder;
 use bitvec_run::run;
 use bitvec_store::BitStore;
 use bitvec_test_support::Counted;
-use std::alloc::Allocator;
-use std::process::Abort;
+use std::alloc::Global;
 
 /// So many loads and stores of the memory, and loads of the right memory.
 #[derive(Clone, Copy)]
@@ -28,8 +27,8 @@ const fn at_most(loads: u64, stores: u64, right_loads: u64) -> Most {
 
 /// Whether a run of one step on all bits of some elements replies so, and takes at most so many loads
 /// and stores.
-fn takes<T: BitStore, O: SliceOrder, A: Allocator>(
-    alloc: A,
+fn takes<T: BitStore, O: SliceOrder>(
+    alloc: Global,
     elements: &mut [T],
     right: &[T],
     row: StepRow,
@@ -53,21 +52,6 @@ fn takes<T: BitStore, O: SliceOrder, A: Allocator>(
     }
 }
 
-/// A run of one step, its reply, and the most that it takes.
-fn check<T: BitStore, O: SliceOrder, R: Abort + AllocGlobal>(
-    rt: &R,
-    elements: &mut [T],
-    right: &[T],
-    row: StepRow,
-    most: Most,
-    reply: Reply,
-) {
-    assert!(rt;
-        takes::<T, O, _>(rt.alloc(), elements, right, row, most, reply),
-        "{row:?}"
-    );
-}
-
 #[test]
 fn a_move_goes_by_words(rt: HostRuntime) {
     let most = at_most(22, 18, 0);
@@ -78,11 +62,11 @@ fn a_move_goes_by_words(rt: HostRuntime) {
         (earlier, [0u8, 0, 0, 0, 0, 0, 0, 0x04, 0, 0]),
     ] {
         let mut bytes = [0x01u8, 0, 0, 0, 0, 0, 0, 0x20, 0, 0];
-        check::<u8, Lsb0, _>(&rt, &mut bytes, &[], copy, most, Reply::Done);
+        assert!(rt; takes::<u8, Lsb0>(rt.alloc(), &mut bytes, &[], copy, most, Reply::Done));
         assert!(rt; bytes == after);
     }
     let mut bytes = [0x80u8, 0, 0, 0, 0, 0, 0, 0x04, 0, 0];
-    check::<u8, Msb0, _>(&rt, &mut bytes, &[], later, most, Reply::Done);
+    assert!(rt; takes::<u8, Msb0>(rt.alloc(), &mut bytes, &[], later, most, Reply::Done));
     assert!(rt; bytes == [0x90u8, 0, 0, 0, 0, 0, 0, 0, 0x80, 0]);
 }
 
@@ -94,7 +78,9 @@ fn a_turn_goes_by_words(rt: HostRuntime) {
         (Op::RotateLeft(64), at_most(28, 14, 0), [2, 1]),
     ] {
         let mut pair = [1u64, 2];
-        check::<u64, Lsb0, _>(&rt, &mut pair, &[], (0, 128, op), most, Reply::Done);
+        assert!(rt;
+            takes::<u64, Lsb0>(rt.alloc(), &mut pair, &[], (0, 128, op), most, Reply::Done)
+        );
         assert!(rt; pair == after);
     }
     let mut halves = [7u64; 64];
@@ -102,7 +88,7 @@ fn a_turn_goes_by_words(rt: HostRuntime) {
     halves[33] = 2;
     let rotate = (0, 4096, Op::RotateLeft(2048));
     let most = at_most(524, 262, 0);
-    check::<u64, Lsb0, _>(&rt, &mut halves, &[], rotate, most, Reply::Done);
+    assert!(rt; takes::<u64, Lsb0>(rt.alloc(), &mut halves, &[], rotate, most, Reply::Done));
     let mut after = [7u64; 64];
     after[32] = 1;
     after[1] = 2;
@@ -116,36 +102,42 @@ fn two_windows_are_gone_over_by_words(rt: HostRuntime) {
     let other = Window { start: 1, len: 130 };
     let and = (0, 130, Op::And(other));
     let right = [0x5555_5555u32; 5];
-    check::<u32, Lsb0, _>(
-        &rt,
-        &mut elements,
-        &right,
-        and,
-        at_most(15, 9, 9),
-        Reply::Done,
+    assert!(rt;
+        takes::<u32, Lsb0>(
+            rt.alloc(),
+            &mut elements,
+            &right,
+            and,
+            at_most(15, 9, 9),
+            Reply::Done,
+        )
     );
     let half = 0xAAAA_AAAA;
     assert!(rt; elements == [half, half, half, half, 0xFFFF_FFFE]);
     let mut wide = [0u128; 2];
     let other = Window { start: 3, len: 128 };
     let copy = (64, 192, Op::CopyFrom(other));
-    check::<u128, Lsb0, _>(
-        &rt,
-        &mut wide,
-        &[u128::MAX; 2],
-        copy,
-        at_most(4, 4, 4),
-        Reply::Done,
+    assert!(rt;
+        takes::<u128, Lsb0>(
+            rt.alloc(),
+            &mut wide,
+            &[u128::MAX; 2],
+            copy,
+            at_most(4, 4, 4),
+            Reply::Done,
+        )
     );
     assert!(rt; wide == [u128::MAX << 64, u128::MAX >> 64]);
     let eq = (3, 67, Op::Eq(Window { start: 5, len: 64 }));
     let ones = [0xFFu8; 9];
-    check::<u8, Lsb0, _>(
-        &rt,
-        &mut [0xFF; 9],
-        &ones,
-        eq,
-        at_most(9, 0, 9),
-        Reply::Bit(true),
+    assert!(rt;
+        takes::<u8, Lsb0>(
+            rt.alloc(),
+            &mut [0xFF; 9],
+            &ones,
+            eq,
+            at_most(9, 0, 9),
+            Reply::Bit(true),
+        )
     );
 }
