@@ -52,7 +52,11 @@ fn move_window<O: WordOrder, C: Cells>(cells: &mut C, to: Window, from: Window)
         move_few::<O, C>(cells, to, from);
         return;
     }
-    move_to::<O, C>(cells, to, from);
+    if to.start <= from.start {
+        move_to::<O, C, false>(cells, to, from);
+    } else {
+        move_to::<O, C, true>(cells, to, from);
+    }
 }
 
 /// [`move_window`] of at most 64 bits. It stands out of line, so that the loops over more bits stay small enough to be inlined.

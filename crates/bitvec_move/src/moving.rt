@@ -24,9 +24,14 @@ const TURN: usize = 128;
 /// aren't empty. The bits at both edges are loaded before the whole elements between them are moved,
 /// and stored behind them.
 #[inline(always)]
-pub(crate) fn move_to<O: WordOrder, C: Cells>(cells: &mut C, to: Window, from: Window)
+pub(crate) fn move_to<O: WordOrder, C: Cells, const LATER: bool>(
+    cells: &mut C,
+    to: Window,
+    from: Window,
+)
     requires span { HasSpan C.Elem.BITS (C.numbers cells.old) (C.numbers cells.old) to from }
     requires some { 0 < to.len }
+    requires towards { IsToward LATER to.start from.start }
     ensures writes { Copies C.Elem.BITS O.at (C.numbers cells.old) (C.numbers cells.new) to (C.numbers cells.old) from }
     ensures cost { let late = late_words C.Elem.BITS to.len in
         CostsAtMost C.CellsRead cells.old cells.new (touched_count C.Elem.BITS from.start from.len + 4 + late) (touched_count C.Elem.BITS to.start to.len + late) }
@@ -37,24 +42,9 @@ pub(crate) fn move_to<O: WordOrder, C: Cells>(cells: &mut C, to: Window, from: W
     let passed = whole_bits::<C::Elem>(rest.len);
     let front = load_short::<O, C>(cells, from.until(from.len - head));
     let back = load_short::<O, C>(cells, behind.after(passed));
-    move_stretch::<O, C>(cells, moved);
+    move_elements::<O, C, LATER>(cells, moved);
     store_short::<O, C>(cells, to.until(rest.len), front);
     store_short::<O, C>(cells, rest.after(passed), back);
-}
-
-/// [`move_elements`], from the end at which no element is written over before it is read.
-#[inline(always)]
-fn move_stretch<O: WordOrder, C: Cells>(cells: &mut C, moved: Stretch)
-    requires span { HasSpan C.Elem.BITS (C.numbers cells.old) (C.numbers cells.old) (elements_window C.Elem.BITS moved.first moved.count) (elements_window_from C.Elem.BITS moved.source moved.skip moved.count) }
-    requires bound { moved.skip < C.Elem.BITS }
-    ensures writes { CopiesElements C.Elem.BITS O.at (C.numbers cells.old) (C.numbers cells.new) (C.numbers cells.old) moved.first moved.source moved.skip moved.count }
-    ensures cost { let late = late_words C.Elem.BITS (moved.count * C.Elem.BITS) in CostsAtMost C.CellsRead cells.old cells.new (moved.count + 1 + late) (moved.count + late) }
-{
-    if moved.first <= moved.source {
-        move_elements::<O, C, false>(cells, moved);
-    } else {
-        move_elements::<O, C, true>(cells, moved);
-    }
 }
 
 /// Moves a stretch of one memory to its whole elements.

@@ -1,4 +1,4 @@
-use Rattle.std.proofs.Common.{◌≡◌, ◌≢◌, ℕ, min, List, length, ◌≤◌, ◌<◌, ◌+◌, ◌-◌, ◌*◌, ◌/◌, ◌%◌, ◌∙◌, ap, arith, refl, zero, suc, ⊎_elim}
+use Rattle.std.proofs.Common.{◌≡◌, ◌≢◌, ℕ, min, Bool, true, false, List, length, ◌≤◌, ◌<◌, ◌+◌, ◌-◌, ◌*◌, ◌/◌, ◌%◌, ◌∙◌, ap, arith, refl, zero, suc, ⊎_elim}
 use Rattle.std.proofs.lemmas.Bool.{cases_eq}
 use Rattle.std.proofs.lemmas.Nat.{div-add-mod', mod_below}
 use Rattle.std.proofs.Math.Nat.{div-mul-le_self, le_refl}
@@ -13,9 +13,10 @@ use Rattle.bitvec_words.specs.Elements.{elements_window, elements_window_from}
 use Rattle.bitvec_words.specs.MovedPlaceLaws.{whole-window_from}
 use Rattle.bitvec_move.proofs.CostSums.{Costs-edges}
 use Rattle.bitvec_cells.specs.Cost.{touched_count}
-use Rattle.bitvec_cells.specs.WalkLaws.{touched-none}
+use Rattle.bitvec_cells.specs.WalkLaws.{div-order, touched-none}
 use Rattle.bitvec_words.specs.TouchedLaws.{head_edge, touched-head, touched-one, touched-parts}
 use Rattle.bitvec_words.specs.WholeLaws.{HasWindow-part, behind-mod, window-end}
+use Rattle.bitvec_words.specs.Moves.{IsToward}
 use Rattle.bitvec_move.proofs.WithinLaws.{Copies-parted, late-order, touched-split, touched-split_whole}
 use Rattle.bitvec_move.proofs.moving.move_to.Goals as goal
 
@@ -40,6 +41,10 @@ back-inside b s t n some long =
     (λ (all : t ≡ n). omega arith)
     (λ (more : t ≢ n). let edge = behind-mod b (s + t) ((n - t) / b) some ∙ head_edge b s t n some long more in omega arith)
     (cases_eq t n)
+
+toward-behind : (later : Bool) (b s r t : ℕ) → 0 < b → IsToward later s r → IsToward later ((s + t) / b) ((r + t) / b)
+toward-behind false b s r t some order = div-order b (s + t) (r + t) some (omega arith)
+toward-behind true b s r t some order = div-order b (r + t) (s + t) some (omega arith)
 
 until-has : {b : ℕ} {xs : List ℕ} {window : Window} (n : ℕ) → HasWindow b xs window → HasWindow b xs (window_until n window)
 until-has {b} {xs} {window} n has = HasWindow-part (window_until n window) has (le_refl window.start) (omega arith)
@@ -70,17 +75,17 @@ pub load_short-front-requires-clause-bound : goal.load_short-front-requires-clau
 load_short-front-requires-clause-bound g c =
     rw c.until.ensures (omega arith)
 
-pub move_stretch-requires-clause-span : goal.move_stretch-requires-clause-span
-move_stretch-requires-clause-span g c =
+pub move_elements-requires-clause-span : goal.move_elements-requires-clause-span
+move_elements-requires-clause-span g c =
     rw (c.load_short-back.ensures.reads.numbers, c.load_short-front.ensures.reads.numbers, c.of-moved.ensures, c.after-rest.ensures, c.after-behind.ensures)
     (span-whole g.met.C.Elem.BitStore.width_law (span-after _ c.requires.span c.head_of-head.ensures.fits))
 
-pub move_stretch-requires-clause-bound : goal.move_stretch-requires-clause-bound
-move_stretch-requires-clause-bound g c = rw c.of-moved.ensures (mod_below c.after-behind.result.start _ (width_some _ g.met.C.Elem.BitStore.width_law))
+pub move_elements-requires-clause-bound : goal.move_elements-requires-clause-bound
+move_elements-requires-clause-bound g c = rw c.of-moved.ensures (mod_below c.after-behind.result.start _ (width_some _ g.met.C.Elem.BitStore.width_law))
 
 pub store_short-requires-clause-window : goal.store_short-requires-clause-window
 store_short-requires-clause-window g c =
-    let kept = c.move_stretch.ensures.writes.elements ∙ ap length (c.load_short-back.ensures.reads.numbers ∙ c.load_short-front.ensures.reads.numbers) in
+    let kept = c.move_elements.ensures.writes.elements ∙ ap length (c.load_short-back.ensures.reads.numbers ∙ c.load_short-front.ensures.reads.numbers) in
     rw c.until-2.ensures (until-has _ (HasWindow-kept _ c.requires.span.window kept))
 
 pub store_short-requires-clause-bound : goal.store_short-requires-clause-bound
@@ -105,10 +110,15 @@ load_short-back-requires g c =
       bound = rest-short _ _ (width_some _ g.met.C.Elem.BitStore.width_law);
     })
 
+pub move_elements-requires-clause-towards : goal.move_elements-requires-clause-towards
+move_elements-requires-clause-towards g c =
+    let some = width_some _ g.met.C.Elem.BitStore.width_law in
+    rw (c.of-moved.ensures, c.after-rest.ensures, c.after-behind.ensures) (toward-behind _ _ _ _ _ some c.requires.towards)
+
 pub store_short-requires-2 : goal.store_short-requires-2
 store_short-requires-2 g c =
     let some = width_some _ g.met.C.Elem.BitStore.width_law in
-    let kept = c.store_short.ensures.writes.elements ∙ c.move_stretch.ensures.writes.elements ∙ ap length (c.load_short-back.ensures.reads.numbers ∙ c.load_short-front.ensures.reads.numbers) in
+    let kept = c.store_short.ensures.writes.elements ∙ c.move_elements.ensures.writes.elements ∙ ap length (c.load_short-back.ensures.reads.numbers ∙ c.load_short-front.ensures.reads.numbers) in
     rw (c.after-2.ensures, c.whole_bits-passed.ensures.value, c.after-rest.ensures)
     (record {
       window = HasWindow-kept _ (after-has _ (after-has _ c.requires.span.window c.head_of-head.ensures.fits) (div-mul-le_self _ _)) kept;
@@ -121,7 +131,7 @@ returns-clause-writes g c =
     let lengths = c.requires.span.lengths in let passed = c.whole_bits-passed.ensures.value in
     let front = rw c.until.ensures at c.load_short-front.ensures.value in
     let back = rw (c.after.ensures, c.after-behind.ensures, passed, c.after-rest.ensures, c.load_short-front.ensures.reads.numbers) at c.load_short-back.ensures.value in
-    let whole = rw (c.load_short-back.ensures.reads.numbers, c.load_short-front.ensures.reads.numbers, c.of-moved.ensures, c.after-behind.ensures, c.after-rest.ensures) at c.move_stretch.ensures.writes in
+    let whole = rw (c.load_short-back.ensures.reads.numbers, c.load_short-front.ensures.reads.numbers, c.of-moved.ensures, c.after-behind.ensures, c.after-rest.ensures) at c.move_elements.ensures.writes in
     let head = rw (c.until-2.ensures, c.after-rest.ensures) at c.store_short.ensures.writes in
     let tail = rw (c.after-2.ensures, passed, c.after-rest.ensures) at c.store_short-2.ensures.writes in
     Copies-parted some c.requires.span c.head_of-head.ensures.long whole head (rw lengths front) tail (rw lengths (rw lengths at back))
@@ -142,7 +152,7 @@ returns-clause-cost g c =
     let written = touched-parts b c.args.to.start t n some c.requires.some c.head_of-head.ensures.long in
     let front = rw (c.until.ensures, until-all m t source_fits) at c.load_short-front.ensures.reads in
     let back = rw (c.after.ensures, c.after-behind.ensures, passed, c.after-rest.ensures) at c.load_short-back.ensures.reads in
-    let whole = rw (c.of-moved.ensures, c.after-rest.ensures) at c.move_stretch.ensures.cost in
+    let whole = rw (c.of-moved.ensures, c.after-rest.ensures) at c.move_elements.ensures.cost in
     let head = rw (c.until-2.ensures, c.after-rest.ensures, until-all n t c.head_of-head.ensures.fits) at c.store_short.ensures.cost in
     let tail = rw (c.after-2.ensures, passed, c.after-rest.ensures) at c.store_short-2.ensures.cost in
     let last = touched-few b _ _ some (back-inside b c.args.to.start t n some c.head_of-head.ensures.long) in
