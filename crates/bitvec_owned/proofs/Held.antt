@@ -1,7 +1,7 @@
 -- Elements that were 0, and into which a list was written.
 use Rattle.std.specs.Prelude.{◌≡◌, ℕ, ◌+◌, ◌*◌, ◌<◌, ◌≤◌, Bool, false, List, [], length, map, replicate, refl}
 use Rattle.std.specs.Int.{div_ceil}
-use Rattle.std.proofs.Common.{◌∙◌, arith, sym}
+use Rattle.std.proofs.Common.{◌∙◌, ap, arith, sym}
 use Rattle.std.proofs.Math.Nat.{lt_of_mul-lt-mul_right}
 use Rattle.std.proofs.lemmas.Grind.{div_ceil_times}
 use Rattle.std.proofs.lemmas.List.{length-replicate}
@@ -10,6 +10,7 @@ use Rattle.bitvec_base.specs.Memory.{memory_bits}
 use Rattle.bitvec_base.specs.Window.{window_of, write_at}
 use Rattle.bitvec_base.specs.WriteLaws.{range-write_at, write_at-nil}
 use Rattle.bitvec_slice.specs.Seen.{Seen, shown}
+use Rattle.bitvec_copying.specs.ElementsLaws.{zeros}
 use Rattle.bitvec_owned.specs.Copies.{Holds}
 
 module _ {T : Type 0} (b : ℕ) (at : ℕ → ℕ → ℕ) (value : T → ℕ) (some : 0 < b) where
@@ -28,6 +29,15 @@ module _ {T : Type 0} (b : ℕ) (at : ℕ → ℕ → ℕ) (value : T → ℕ) (
         count = rw (← long) count;
         memory = written;
       }
+
+  -- what such elements hold
+  pub held : (none : T) (old elements : List T) (count from n : ℕ) (list : List Bool) (sequence : Seen T) → value none ≡ 0 → old ≡ replicate count none → length elements ≡ length old
+      → count ≡ div_ceil (from + n) b → n ≡ length list → memory_bits b at (map value elements) ≡ write_at (memory_bits b at (map value old)) from list
+      → sequence ≡ shown b at value elements from n → Holds b list from sequence
+  held none old elements count from n list sequence is_zero filled many rounded long written is =
+      let size : length elements ≡ count = many ∙ ap length filled ∙ length-replicate count none in
+      let before : memory_bits b at (map value old) ≡ replicate (b * length elements) false = rw (size, filled) (zeros b at value none count is_zero) in
+      rw is (holds elements from n list long (size ∙ rounded) (written ∙ ap (λ (memory : List Bool). write_at memory from list) before))
 
   -- a sequence of no element
   pub held_none : (elements : List T) (sequence : Seen T) → elements ≡ [] → sequence ≡ shown b at value elements 0 0 → Holds b [] 0 sequence

@@ -10,6 +10,7 @@ ghost use Rattle.bitvec_slice.specs.Views.{seen};
 
 use crate::BitVec;
 use bitvec_base::{MAX_BITS, Window};
+use bitvec_copying::zeros;
 use bitvec_elements::copy_from_block_in;
 use bitvec_engine::SliceOrder;
 use bitvec_slice::BitSlice;
@@ -41,13 +42,19 @@ pub(crate) fn repeat_of<T: BitStore, O: SliceOrder, A: Allocator>(
         return Err(RepeatError::TooLong);
     }
     if total == 0 {
-        return Ok(BitVec::new_in(alloc));
+        return Ok(BitVec::from_parts(Vec::new(alloc), 0, 0));
     }
-    let Ok(mut made) = BitVec::repeat(alloc, false, total) else {
+    let width = T::BITS as usize;
+    let count = total.div_ceil(width);
+    let Ok(mut elements) = zeros::<T, A>(alloc, count) else {
         return Err(RepeatError::Memory);
     };
-    write_copies(made.as_raw_mut_slice(), view, copies);
-    Ok(made)
+    // The bits fit `MAX_BITS`, but the elements around them have more bits: no machine grants so much memory.
+    if count > MAX_BITS / width {
+        return Err(RepeatError::Memory);
+    }
+    write_copies(elements.as_mut_slice(), view, copies);
+    Ok(BitVec::from_parts(elements, 0, total))
 }
 
 /// Writes a view's bits `copies` times, from the first place on. Condition: they have room.
