@@ -43,10 +43,13 @@ fn a_slice_that_is_short_enough_is_viewed_and_written(rt: HostRuntime) {
     let elements = [0x0Fu8, 0x01];
     let view = BitSlice::<u8, Lsb0>::try_from_slice(&elements);
     assert!(rt; found(view) == Some((16, Some(8))));
-    let view: Result<BitSlice<'_, u8, Lsb0>, &[u8]> = BitSlice::try_from(&elements[..]);
-    assert!(rt; found(view) == Some((16, Some(8))));
+    let again = found::<&[u8]>(BitSlice::try_from(elements.as_slice()));
     let view = BitSlice::<u8, Lsb0>::from_slice_unchecked(&elements);
-    assert!(rt; view.into_slice().len() == 2);
+    assert!(rt; (again, view.into_slice().len()) == (Some((16, Some(8))), 2));
+}
+
+#[test]
+fn elements_are_written_through_views_of_slices(rt: HostRuntime) {
     let mut elements = [3u16, 5];
     fill_and_invert(&mut elements);
     assert!(rt; elements == [0, 0]);
@@ -55,18 +58,27 @@ fn a_slice_that_is_short_enough_is_viewed_and_written(rt: HostRuntime) {
     assert!(rt; view.into_slice()[1] == 2);
 }
 
+/// Whether a view has no bits.
+fn is_empty(view: BitSlice<'_, u8, Lsb0>) -> bool {
+    view.is_empty() && view.len() == 0
+}
+
+/// Whether a writable view has no bits.
+fn is_empty_mut(view: BitSliceMut<'_, u8, Lsb0>) -> bool {
+    view.is_empty()
+}
+
 #[test]
 fn views_of_nothing_and_of_one_element(rt: HostRuntime) {
-    let empty = [
-        BitSlice::<u8, Lsb0>::default().is_empty(),
-        BitSliceMut::<u8, Lsb0>::default().is_empty(),
-        BitSlice::<u8, Lsb0>::from_slice(&[]).len() == 0,
-        BitSliceMut::<u8, Lsb0>::empty_mut().is_empty(),
-    ];
-    assert!(rt; empty == [true; 4]);
     assert!(rt; BitSlice::<u8, Lsb0>::empty().is_empty());
+    let empty = [
+        is_empty(BitSlice::default()),
+        is_empty(BitSlice::from_slice(&[])),
+        is_empty_mut(BitSliceMut::default()),
+        is_empty_mut(BitSliceMut::empty_mut()),
+    ];
     let view = BitSlice::<u8, Lsb0>::from_element(&0xF1);
-    assert!(rt; view.last_zero() == Some(3));
+    assert!(rt; (empty, view.last_zero()) == ([true; 4], Some(3)));
     let view = from_ref::<u32, Lsb0>(&0x8000_0000);
     assert!(rt; (view.len(), view.first_one()) == (32, Some(31)));
     let most = (

@@ -94,16 +94,23 @@ fn parts_and_values_are_read(rt: HostRuntime) {
     assert!(rt; view.bit_domain().enclave().is_none());
 }
 
+/// The first value of a domain and the last one.
+fn end_values(view: BitSlice<'_, u8, Lsb0>) -> [Option<u8>; 2] {
+    let first = view.domain().into_iter().next();
+    [first, view.domain().values().next_back()]
+}
+
+/// Whether the parts of a view come from both ends.
+fn has_end_parts(view: BitSlice<'_, u8, Lsb0>) -> bool {
+    let mut parts = view.bit_domain().parts();
+    parts.next().is_some() && parts.next_back().is_some()
+}
+
 #[test]
 fn values_and_parts_come_from_both_ends(rt: HostRuntime) {
     let view = BitSlice::<u8, Lsb0>::from_slice(&[0xFF, 0x12, 0xFF]).into_part(4..20);
-    let ends = [
-        view.domain().into_iter().next(),
-        view.domain().values().next_back(),
-    ];
-    assert!(rt; ends == [Some(0xF0), Some(0x0F)]);
-    let mut parts = view.bit_domain().parts();
-    assert!(rt; parts.next().is_some() && parts.next_back().is_some());
+    assert!(rt; end_values(view) == [Some(0xF0), Some(0x0F)]);
+    assert!(rt; has_end_parts(view));
     let mut elements = [0u8; 3];
     flip_each_part(&mut elements);
     assert!(rt; elements == [0xF0, 0xFF, 0x0F]);

@@ -25,15 +25,31 @@ fn has(
     }
 }
 
+/// Whether the first bit of a view of three reads as 1 and the last one as 0, and each is split off.
+fn has_ends(view: BitSlice<'_, u8, Lsb0>) -> [bool; 4] {
+    [
+        reads(view.first(), true),
+        reads(view.last(), false),
+        has(view.split_first(), true, 2),
+        has(view.split_last(), false, 2),
+    ]
+}
+
+/// Whether the same is so of a writable view.
+fn has_ends_mut(view: &BitSliceMut<'_, u8, Lsb0>) -> [bool; 4] {
+    [
+        reads(view.first(), true),
+        reads(view.last(), false),
+        has(view.split_first(), true, 2),
+        has(view.split_last(), false, 2),
+    ]
+}
+
 #[test]
 fn first_and_last_bits_are_read_and_split_off(rt: HostRuntime) {
     let mut elements = [0xF9u8];
     let view = BitSliceMut::<u8, Lsb0>::from_slice_mut(&mut elements).into_part(0..3);
-    assert!(rt; reads(view.first(), true) && reads(view.last(), false));
-    assert!(rt; has(view.split_first(), true, 2) && has(view.split_last(), false, 2));
-    let view = view.as_ref();
-    assert!(rt; reads(view.first(), true) && reads(view.last(), false));
-    assert!(rt; has(view.split_first(), true, 2) && has(view.split_last(), false, 2));
+    assert!(rt; [has_ends_mut(&view), has_ends(view.as_ref())] == [[true; 4]; 2]);
 }
 
 /// How many bits two views have each, and how many of these are 1.
@@ -47,10 +63,12 @@ fn counts(parts: (BitSlice<'_, u8, Lsb0>, BitSlice<'_, u8, Lsb0>)) -> [(usize, u
 
 #[test]
 fn views_are_read_in_two_parts(rt: HostRuntime) {
-    let elements = [0xF0u8];
-    let view = BitSlice::<u8, Lsb0>::from_slice(&elements);
-    assert!(rt; counts(view.split_at(4)) == [(4, 0), (4, 4)]);
-    assert!(rt; counts(view.split_at_unchecked(5)) == [(5, 1), (3, 3)]);
+    {
+        let elements = [0xF0u8];
+        let view = BitSlice::<u8, Lsb0>::from_slice(&elements);
+        assert!(rt; counts(view.split_at(4)) == [(4, 0), (4, 4)]);
+        assert!(rt; counts(view.split_at_unchecked(5)) == [(5, 1), (3, 3)]);
+    }
     let mut elements = [0xF0u8];
     let view = BitSliceMut::<u8, Lsb0>::from_slice_mut(&mut elements);
     let (left, right) = view.split_at(4);

@@ -9,8 +9,8 @@ use bitvec_test_support::{MEMORIES, bits_of, flipped};
 /// Flips the bit that a call lends, if it does.
 fn flip_bit(view: &mut BitSliceMut<'_, u8, Lsb0>, kind: usize) {
     let bit = match kind {
-        0 => view.first_mut(),
-        1 => view.last_mut(),
+        6 => view.first_mut(),
+        7 => view.last_mut(),
         _ => view.get_mut(9),
     };
     if let Some(mut bit) = bit {
@@ -41,11 +41,11 @@ fn flip_side(view: &mut BitSliceMut<'_, u8, Lsb0>, mid: usize, is_front: bool) {
 }
 
 /// Flips a bit, or the bits from an index on, by the unchecked call.
-fn flip_unchecked(view: &mut BitSliceMut<'_, u8, Lsb0>, kind: usize) {
+fn flip_unchecked(view: &mut BitSliceMut<'_, u8, Lsb0>, is_bit: bool) {
     if view.len() < 12 {
         return;
     }
-    if kind == 10 {
+    if is_bit {
         let mut bit = view.get_unchecked_mut(6);
         let old = *bit;
         bit.set(!old);
@@ -54,56 +54,53 @@ fn flip_unchecked(view: &mut BitSliceMut<'_, u8, Lsb0>, kind: usize) {
     }
 }
 
-/// Flips what a call lends, by one call a number.
-fn flip_lent(view: &mut BitSliceMut<'_, u8, Lsb0>, kind: usize) {
+/// Flips what a call lends, by one call a number: a range of one index up to another, and so forth.
+fn flip_lent(view: &mut BitSliceMut<'_, u8, Lsb0>, kind: usize, first: usize, end: usize) {
     match kind {
-        0..=2 => flip_bit(view, kind),
-        3 => flip_part(view.get_mut(19..)),
-        4 => flip_part(view.get_mut(2..9)),
-        5 => flip_part(view.get_mut(7..=13)),
-        6 => flip_part(view.get_mut(11..)),
-        7 => flip_part(view.get_mut(..4)),
-        8 => flip_part(view.get_mut(..=8)),
-        9 => flip_part(view.get_mut(..)),
-        10 | 11 => flip_unchecked(view, kind),
-        12 => flip_side(view, 5, true),
-        13 => flip_side(view, 5, false),
-        14 => flip_side(view, 0, false),
-        _ => flip_side(view, 7, false),
+        0 => flip_part(view.get_mut(first..end)),
+        1 => flip_part(view.get_mut(first..)),
+        2 => flip_part(view.get_mut(..end)),
+        3 => flip_part(view.get_mut(..)),
+        4 => flip_part(view.get_mut(first..=end)),
+        5 => flip_part(view.get_mut(..=end)),
+        6..=8 => flip_bit(view, kind),
+        9 => flip_unchecked(view, first == 6),
+        10 => flip_side(view, end, true),
+        _ => flip_side(view, first, false),
     }
 }
 
 /// Flips what a call lends of the bits 3 up to 21, and says where the view stands then.
-fn flip_in(bytes: &mut [u8; 3], kind: usize) -> Window {
+fn flip_in(bytes: &mut [u8; 3], kind: usize, first: usize, end: usize) -> Window {
     let mut view = BitSliceMut::<u8, Lsb0>::from_slice_mut(bytes).into_part(3..21);
-    flip_lent(&mut view, kind);
+    flip_lent(&mut view, kind, first, end);
     view.window()
 }
 
-// Each call by its number lends the bits from one place of the bytes up to another.
+// Each call lends the bits from one place of the bytes up to another.
 #[test]
 fn what_is_lent_is_flipped_and_all_else_stays(rt: HostRuntime) {
     for bytes in MEMORIES {
-        for (kind, from, to) in [
-            (0, 3, 4),
-            (1, 20, 21),
-            (2, 12, 13),
-            (3, 0, 0),
-            (4, 5, 12),
-            (5, 10, 17),
-            (6, 14, 21),
-            (7, 3, 7),
-            (8, 3, 12),
-            (9, 3, 21),
-            (10, 9, 10),
-            (11, 15, 21),
-            (12, 3, 8),
-            (13, 8, 21),
-            (14, 3, 21),
-            (15, 0, 0),
+        for (kind, first, end, from, to) in [
+            (6, 0, 0, 3, 4),
+            (7, 0, 0, 20, 21),
+            (8, 0, 0, 12, 13),
+            (1, 19, 0, 0, 0),
+            (0, 2, 9, 5, 12),
+            (4, 7, 13, 10, 17),
+            (1, 11, 0, 14, 21),
+            (2, 0, 4, 3, 7),
+            (5, 0, 8, 3, 12),
+            (3, 0, 0, 3, 21),
+            (9, 6, 0, 9, 10),
+            (9, 12, 0, 15, 21),
+            (10, 0, 5, 3, 8),
+            (11, 5, 0, 8, 21),
+            (11, 0, 0, 3, 21),
+            (11, 7, 0, 0, 0),
         ] {
             let mut after = bytes;
-            let window = flip_in(&mut after, kind);
+            let window = flip_in(&mut after, kind, first, end);
             assert!(rt; bits_of(after) == flipped(bytes, from, to), "{kind}");
             assert!(rt; window == Window { start: 3, len: 18 }, "{kind}");
         }

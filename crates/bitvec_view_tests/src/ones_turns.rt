@@ -25,19 +25,34 @@ fn walk<O: SliceOrder>(
     cells.loads()
 }
 
-#[test]
-fn turns_from_both_ends(rt: HostRuntime) {
-    let all = Window { start: 0, len: 24 };
+/// What five turns give of the ones of three bytes, and whether these are loaded twice at most.
+fn of_three_bytes() -> ([Option<usize>; 5], bool) {
     let mut ones = [None; 5];
     let turns = [Front, Back, Front, Back, Front];
+    let all = Window { start: 0, len: 24 };
     let loads = walk::<Lsb0>(&[0x21, 0x00, 0x80], all, true, &turns, &mut ones);
-    assert!(rt; (ones, loads <= 6) == ([Some(0), Some(23), Some(5), None, None], true));
-    let three = Window { start: 2, len: 3 };
+    (ones, loads <= 6)
+}
+
+/// What two turns from the end give of the zeros of three bits.
+fn of_three_bits() -> ([Option<usize>; 2], bool) {
     let mut zeros = [Some(0); 2];
+    let three = Window { start: 2, len: 3 };
     let loads = walk::<Lsb0>(&[0xF7], three, false, &[Back, Back], &mut zeros);
-    assert!(rt; (zeros, loads <= 2) == ([Some(1), None], true));
+    (zeros, loads <= 2)
+}
+
+/// What three turns give of a byte under an order that has no words.
+fn of_a_byte() -> ([Option<usize>; 3], bool) {
+    let mut ones = [None; 3];
     let byte = Window { start: 0, len: 8 };
-    let mut out = [None; 3];
-    let loads = walk::<HiLo>(&[0xA5], byte, true, &[Back, Front, Front], &mut out);
-    assert!(rt; (out, loads <= 4) == ([Some(6), Some(1), Some(3)], true));
+    let loads = walk::<HiLo>(&[0xA5], byte, true, &[Back, Front, Front], &mut ones);
+    (ones, loads <= 4)
+}
+
+#[test]
+fn turns_from_both_ends(rt: HostRuntime) {
+    assert!(rt; of_three_bytes() == ([Some(0), Some(23), Some(5), None, None], true));
+    assert!(rt; of_three_bits() == ([Some(1), None], true));
+    assert!(rt; of_a_byte() == ([Some(6), Some(1), Some(3)], true));
 }

@@ -60,19 +60,34 @@ fn pair_of_bits<R: Abort>(rt: &R, view: BitSlice<'_, u8, Lsb0>) -> Result<(), &'
     Ok(())
 }
 
+/// How bits of a byte read by an index and without a test, how many follow the first two, and whether an index lies in it.
+fn read_by_index(view: BitSlice<'_, u8, Lsb0>) -> (bool, bool, usize, bool) {
+    if view.len() != 8 {
+        return (false, false, 0, false);
+    }
+    (
+        *4.index(view),
+        *view.get_unchecked(3),
+        (2..).index(view).len(),
+        BitSliceIndex::<BitSlice<u8, Lsb0>>::fits(&2, 3),
+    )
+}
+
+/// Sets the third bit of a byte by its index, and gives the first, the second and the third then.
+fn set_by_index(elements: &mut [u8; 1]) -> [bool; 3] {
+    {
+        let view = BitSliceMut::<u8, Lsb0>::from_slice_mut(elements);
+        2.index_mut(view).commit(true);
+    }
+    let view = BitSliceMut::<u8, Lsb0>::from_slice_mut(elements);
+    [view[0], view[1], *view.get_unchecked(2)]
+}
+
 #[test]
 fn bits_and_ranges_are_there_by_index(rt: HostRuntime) {
     assert!(rt; pair_of_bits(&rt, five_bits(&[0x12])).is_ok());
-    let view = BitSlice::<u8, Lsb0>::from_slice(&[0x12]);
-    assert!(rt; *4.index(view) && (2..).index(view).len() == 6 && !*view.get_unchecked(3));
-    assert!(rt; BitSliceIndex::<BitSlice<u8, Lsb0>>::fits(&2, 3));
-    let mut elements = [0x01u8];
-    {
-        let view = BitSliceMut::<u8, Lsb0>::from_slice_mut(&mut elements);
-        2.index_mut(view).commit(true);
-    }
-    let view = BitSliceMut::<u8, Lsb0>::from_slice_mut(&mut elements);
-    assert!(rt; view[0] && !view[1] && *view.get_unchecked(2));
+    assert!(rt; read_by_index(BitSlice::from_slice(&[0x12])) == (true, false, 6, true));
+    assert!(rt; set_by_index(&mut [0x01]) == [true, false, true]);
     let mut elements = [0u8; 3];
     let view = BitSliceMut::<u8, Lsb0>::from_slice_mut(&mut elements);
     assert!(rt; view.window() == Window { start: 0, len: 24 });

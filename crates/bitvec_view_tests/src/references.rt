@@ -4,6 +4,7 @@ use bitvec_base::Lsb0;
 use bitvec_domain::BitRef;
 use bitvec_slice::{BitSlice, BitSliceMut};
 use bitvec_test_support::{prints, shows};
+use std::alloc::Global;
 
 /// Writes the bit 2 to 1, to 0 and to 1 again: gives the bit before the first write, and those after
 /// the first and the second.
@@ -38,13 +39,23 @@ fn reads_alike(bit: &BitRef<'_, u8, Lsb0>) -> bool {
     }
 }
 
+/// Whether references to two bits of writable views print so, and are the same.
+fn are_alike(alloc: Global, text: &str) -> bool {
+    let (mut elements, mut others) = ([0x01u8], [0x03u8]);
+    let bit = BitSliceMut::<u8, Lsb0>::from_slice_mut(&mut elements).into_bit(0);
+    prints(alloc, &bit, text)
+        && shows(alloc, &bit, text)
+        && bit == BitSliceMut::<u8, Lsb0>::from_slice_mut(&mut others).into_bit(1)
+}
+
 #[test]
 fn references_are_copied_compared_and_printed(rt: HostRuntime) {
     let bit = BitSlice::<u8, Lsb0>::from_slice(&[0x12]).into_bit(1);
-    assert!(rt; reads_alike(&bit));
-    assert!(rt; prints(rt.alloc(), &bit, "true") && shows(rt.alloc(), &bit, "true"));
-    let (mut elements, mut others) = ([0x01u8], [0x03u8]);
-    let bit = BitSliceMut::<u8, Lsb0>::from_slice_mut(&mut elements).into_bit(0);
-    assert!(rt; prints(rt.alloc(), &bit, "true") && shows(rt.alloc(), &bit, "true"));
-    assert!(rt; bit == BitSliceMut::<u8, Lsb0>::from_slice_mut(&mut others).into_bit(1));
+    let is_so = [
+        reads_alike(&bit),
+        prints(rt.alloc(), &bit, "true"),
+        shows(rt.alloc(), &bit, "true"),
+        are_alike(rt.alloc(), "true"),
+    ];
+    assert!(rt; is_so == [true; 4]);
 }

@@ -125,20 +125,35 @@ fn views_of_two_lengths_and_orders_are_compared(rt: HostRuntime) {
 fn bits_are_found_and_runs_are_counted(rt: HostRuntime) {
     let view = BitSlice::<u8, Lsb0>::from_slice(&[0x0B]).into_part(0..5);
     assert!(rt; runs(view) == [2, 0, 0, 1]);
-    assert!(rt; places(&view) == [Some(0), Some(2), Some(3), Some(4)]);
+    let places = [places(&view), places_of_two(0xFF), places_of_two(0x00)];
+    assert!(rt;
+        places
+            == [
+                [Some(0), Some(2), Some(3), Some(4)],
+                [Some(0), None, Some(15), None],
+                [None, Some(0), None, Some(15)]
+            ]
+    );
     assert!(rt; (view.count_ones_before(3), view.nth_one(2)) == (2, Some(3)));
-    assert!(rt; answers(view) == [true, false, false, true, true]);
-    assert!(rt; answers(BitSlice::empty()) == [false, true, true, false, false]);
-    assert!(rt; places_of_two(0xFF) == [Some(0), None, Some(15), None]);
-    assert!(rt; places_of_two(0x00) == [None, Some(0), None, Some(15)]);
+    let answers = [answers(view), answers(BitSlice::empty())];
+    assert!(rt;
+        answers
+            == [
+                [true, false, false, true, true],
+                [false, true, true, false, false]
+            ]
+    );
 }
 
 // The first view is 0, 1, 0, 0, 1, the writable one 0, 1, 0, 0, 1, 0, 0, 0.
 #[test]
 fn what_a_needle_leaves_of_a_view(rt: HostRuntime) {
     let needles = BitSlice::<u8, Lsb0>::from_slice(&[0x12]);
-    assert!(rt; stripped(needles.into_part(1..3)) == [None, None]);
-    assert!(rt; stripped(needles.into_part(0..2)) == [Some((3, 1)), Some((3, 2))]);
+    let rests = [
+        stripped(needles.into_part(1..3)),
+        stripped(needles.into_part(0..2)),
+    ];
+    assert!(rt; rests == [[None, None], [Some((3, 1)), Some((3, 2))]]);
     let mut elements = [0x12u8];
     let view = BitSliceMut::<u8, Lsb0>::from_slice_mut(&mut elements);
     let zero_one = BitSlice::<u8, Lsb0>::from_slice(&[0x02]).into_part(0..2);
