@@ -26,26 +26,36 @@ fn value_of(bit: Option<BitRef<'_, u8, Msb0>>) -> Option<bool> {
     }
 }
 
-#[test]
-fn bits_from_both_ends(rt: HostRuntime) {
-    let view = BitSlice::<u8, Msb0>::from_slice(&[0x17]);
+/// What a walk over a byte gives by `nth` and `next_back`, how many bits are left by each call, and what a clone gives then.
+fn walk(view: BitSlice<'_, u8, Msb0>) -> ([Option<bool>; 2], [usize; 4], Option<bool>) {
     let mut bits = view.iter();
-    assert!(rt; [value_of(bits.nth(3)), value_of(bits.next_back())] == [Some(true); 2]);
+    let given = [value_of(bits.nth(3)), value_of(bits.next_back())];
+    let copied = match bits.clone() {
+        Ok(mut copy) => value_of(copy.next()),
+        Err(_) => None,
+    };
     let lens = [
         bits.as_bitslice().len(),
         bits.as_ref().len(),
         bits.as_slice().len(),
         bits.size_hint().0,
     ];
-    assert!(rt; lens == [3; 4]);
-    if let Ok(mut copy) = bits.clone() {
-        assert!(rt; value_of(copy.next()) == Some(false) && bits.len() == 3);
-    }
-    let mut elements = [0x17u8];
-    let view = BitSliceMut::<u8, Msb0>::from_slice_mut(&mut elements);
+    (given, lens, copied)
+}
+
+/// The first bit and the last by references, and how many are left then, and the last and the first by values.
+fn walk_mut(elements: &mut [u8; 1]) -> ([Option<bool>; 4], usize) {
+    let view = BitSliceMut::<u8, Msb0>::from_slice_mut(elements);
     let mut refs = view.iter().by_refs();
     let (first, last) = (refs.next().copied(), refs.next_back().copied());
-    assert!(rt; ([first, last], refs.len()) == ([Some(false), Some(true)], 6));
     let mut vals = view.iter().copied();
-    assert!(rt; [vals.next_back(), vals.next()] == [Some(true), Some(false)]);
+    ([first, last, vals.next_back(), vals.next()], refs.len())
+}
+
+#[test]
+fn bits_from_both_ends(rt: HostRuntime) {
+    let walked = walk(BitSlice::from_slice(&[0x17]));
+    assert!(rt; walked == ([Some(true); 2], [3; 4], Some(false)));
+    let given = [Some(false), Some(true), Some(true), Some(false)];
+    assert!(rt; walk_mut(&mut [0x17]) == (given, 6));
 }

@@ -31,18 +31,35 @@ fn from_both_ends<C: Cutting>(mut pieces: Pieces<'_, u8, Msb0, C>) -> [Read; 4] 
 #[test]
 fn pieces_in_order_and_from_both_ends(rt: HostRuntime) {
     let view = BitSlice::<u8, Msb0>::from_slice(&[0x17]);
-    let from_the_end = [Some((3, 7)), Some((3, 2)), Some((2, 0)), None];
-    assert!(rt; forward(view.rchunks(3)) == from_the_end);
-    let whole = [Some((3, 7)), Some((3, 2)), None, None];
-    assert!(rt; forward(view.rchunks_exact(3)) == whole);
-    assert!(rt; from_both_ends(view.chunks(3)) == [Some((3, 5)), Some((2, 3)), None, None]);
     let five = view.into_part(0..5);
-    assert!(rt; forward(five.windows(3)) == [Some((3, 0)), Some((3, 1)), Some((3, 2)), None]);
-    assert!(rt; from_both_ends(five.windows(3)) == [Some((3, 1)), Some((3, 2)), None, None]);
+    let in_order = [
+        forward(view.rchunks(3)),
+        forward(view.rchunks_exact(3)),
+        forward(five.windows(3)),
+    ];
+    assert!(rt;
+        in_order
+            == [
+                [Some((3, 7)), Some((3, 2)), Some((2, 0)), None],
+                [Some((3, 7)), Some((3, 2)), None, None],
+                [Some((3, 0)), Some((3, 1)), Some((3, 2)), None],
+            ]
+    );
+    let by_turns = [
+        from_both_ends(view.chunks(3)),
+        from_both_ends(five.windows(3)),
+    ];
+    assert!(rt;
+        by_turns
+            == [
+                [Some((3, 5)), Some((2, 3)), None, None],
+                [Some((3, 1)), Some((3, 2)), None, None]
+            ]
+    );
 }
 
 #[test]
-fn a_clone_walks_alone_and_remainders_are_left(rt: HostRuntime) {
+fn a_clone_walks_alone(rt: HostRuntime) {
     let elements = [0x17u8];
     let view = BitSlice::<u8, Msb0>::from_slice(&elements);
     let mut chunks = view.chunks(3);
@@ -54,14 +71,17 @@ fn a_clone_walks_alone_and_remainders_are_left(rt: HostRuntime) {
     };
     assert!(rt; copied == [Some((3, 5)), Some((2, 3)), None, None]);
     assert!(rt; (hint, read(chunks.next())) == ((2, Some(2)), Some((3, 5))));
+}
+
+#[test]
+fn remainders_are_left(rt: HostRuntime) {
     let mut elements = [0x17u8];
     let view = BitSliceMut::<u8, Msb0>::from_slice_mut(&mut elements);
     let mut front = view.chunks_exact(3);
     assert!(rt; (read(front.next_back()), front.len()) == (Some((3, 5)), 1));
+    let left = front.remainder().len();
     let mut chunks = view.rchunks(3);
     assert!(rt; read(chunks.next()) == Some((3, 7)));
     assert!(rt; read(Some(view.rchunks_exact(3).remainder())) == Some((2, 0)));
-    let left = front.remainder().len();
-    let none = view.into_part(0..5).windows(6).len();
-    assert!(rt; [left, none] == [2, 0]);
+    assert!(rt; [left, view.into_part(0..5).windows(6).len()] == [2, 0]);
 }
