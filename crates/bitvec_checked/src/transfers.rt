@@ -1,6 +1,4 @@
 //! Bits of a window copied from a window of another memory, combined with its bits, or exchanged for them.
-ghost use Rattle.std.specs.Prelude.{◌≡◌, map};
-ghost use Rattle.bitvec_base.specs.Memory.{HasWindow, Writes, list_in};
 ghost use Rattle.bitvec_commands.specs.declared.command.Op.TheVariants.{And, CopyFrom, Or, Xor};
 ghost use Rattle.bitvec_checked.specs.Calls.{EditsBeside, Joins, Swaps};
 ghost use Rattle.bitvec_checked.specs.Pairs.{only_first};
@@ -8,9 +6,7 @@ ghost use Rattle.bitvec_checked.specs.Statuses.{bits_from};
 
 use crate::status::{equal_windows_status, windows_status};
 use bitvec_base::Window;
-use bitvec_cells::{Exclusive, Shared};
 use bitvec_elements::{combine_block_in, copy_from_long_block_in, swap_with_block_in};
-use bitvec_engine::SliceOrder;
 use bitvec_store::BitStore;
 use bitvec_words::BitOp;
 
@@ -31,32 +27,8 @@ pub fn copy<T: BitStore>(
         order,
         elements[start, len],
         right[right_start, right_len],
-        copy_in::<T>
+        copy_from_long_block_in::<T>
     )
-}
-
-/// [`copy_from_long_block_in`], where shifted windows are copied in the caller: a call and its registers would cost a short
-/// window a tenth of its time.
-#[inline(always)]
-fn copy_in<T: BitStore, O: SliceOrder>(
-    elements: &mut [T],
-    window: Window,
-    right: &[T],
-    right_window: Window,
-)
-    requires window { HasWindow T.BITS (map T.value elements.old) window }
-    requires right_window { HasWindow T.BITS (map T.value right.now) right_window }
-    requires lengths { window.len ≡ right_window.len }
-    ensures writes { Writes T.BITS O.at (map T.value elements.old) (map T.value elements.new) window
-        (list_in T.BITS O.at (map T.value right.now) right_window) }
-{
-    if window.phase::<T>() == right_window.phase::<T>() {
-        copy_from_long_block_in::<T, O>(elements, window, right, right_window);
-        return;
-    }
-    let mut cells = Exclusive::new(elements);
-    let mut beside = Shared::new(right);
-    O::block_copy::<Exclusive<T>, Shared<T>>(&mut cells, window, &mut beside, right_window);
 }
 
 /// Makes each bit of a window that bit and the one at its index in the right window, 0 past its end.

@@ -53,12 +53,6 @@ impl<O: WordOrder> Phases<O> for Shifted {
                 act_carried::<O, C, D, A, Whole<_>>(left, from, right, at, skip, count, carry, act)
             );
         }
-        // fewer than a turn are spared the numbers of turns
-        if count < A::turn() {
-            return act_carried::<O, C, D, A, Whole<_>>(
-                left, from, right, at, skip, count, carry, act,
-            );
-        }
         act_in_turns::<O, C, D, A, Whole<_>>(left, stretch, right, carry, act, A::turn())
     }
 

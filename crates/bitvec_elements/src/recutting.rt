@@ -6,10 +6,10 @@ ghost use Rattle.bitvec_passes.specs.Pairs.{HasPair};
 ghost use Rattle.bitvec_base.specs.Memory.{HasWindow, Writes, list_in};
 
 use crate::copying::copy_words;
-use crate::window_words::reordered;
+use crate::window_words::{reordered, word_behind};
 use bitvec_base::{BitOrder, Window};
-use bitvec_cells::{Exclusive, Shared};
-use bitvec_few::{is_few, load_across};
+use bitvec_cells::Exclusive;
+use bitvec_few::is_few;
 use bitvec_store::BitStore;
 use bitvec_words::{WORD_BITS, WordOrder, store_elements};
 
@@ -114,8 +114,7 @@ fn recut_words<W: WordOrder, V: WordOrder, T: BitStore, U: BitStore>(
     let (first, source, skip) = (to.start / bits, from.start / others, from.start % others);
     let mut cells = Exclusive::new(left);
     for step in 0..to.len / WORD_BITS {
-        let next = source + step * (WORD_BITS / others);
-        let word = load_across::<V, Shared<U>>(&mut Shared::new(right), next, skip);
+        let word = word_behind::<V, U>(right, source + step * (WORD_BITS / others), skip);
         let made = reordered::<V, W>(word);
         store_elements::<W, Exclusive<T>>(&mut cells, first + step * (WORD_BITS / bits), made);
     }

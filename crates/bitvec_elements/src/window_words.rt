@@ -1,17 +1,18 @@
 //! The bits of a window of a slice, up to 64 of them under any order, as the first bits of a word under an order that
 //! runs from one end of it to the other.
-ghost use Rattle.std.specs.Prelude.{◌≡◌, ◌+◌, ◌≤◌, ◌↔◌, ◌⊎◌, map, min, slice_range, true};
+ghost use Rattle.std.specs.Prelude.{◌≡◌, ◌+◌, ◌/◌, ◌<◌, ◌≤◌, ◌↔◌, ◌⊎◌, map, min, slice_range, true};
 ghost use Rattle.bitvec_base.specs.Memory.{HasWindow, element_bits, list_in};
+ghost use Rattle.bitvec_words.specs.Elements.{elements_window_from};
 ghost use Rattle.bitvec_words.specs.ShortWindow.{padded};
 ghost use Rattle.bitvec_elements.specs.BitsFrom.{HasBitsFrom};
 ghost use Rattle.bitvec_engine.specs.Direction.{HasDirection};
 
-use bitvec_base::{BitOrder, Lsb0, Msb0, Part, Window};
+use bitvec_base::{BitOrder, Lsb0, Msb0, Part, Window, elements_of};
 use bitvec_cells::{CellsRead, Shared};
 use bitvec_engine::Direction;
 use bitvec_few::load_parts;
 use bitvec_store::BitStore;
-use bitvec_words::{WORD_BITS, WordOrder, gathered, moved, reversed};
+use bitvec_words::{WORD_BITS, WordOrder, gathered, joined, load_elements, moved, reversed};
 
 /// The 64 bits of a window from an index on as a word, with zeros past the window's end. Conditions:
 /// the window lies in a memory of at most `MAX_BITS` bits, the index is at most 64 behind its end,
@@ -76,6 +77,30 @@ pub(crate) fn reordered<V: WordOrder, W: WordOrder>(word: u64) -> u64
     } else {
         reversed::<V, u64>(word)
     }
+}
+
+/// The 64 bits from the index `skip` of an element on: those of one word, and what is left of them with the next
+/// element. Conditions: elements are not wider than a word, and the bits lie in a memory of at most `MAX_BITS` bits.
+#[inline(always)]
+pub(crate) fn word_behind<W: WordOrder, T: BitStore>(
+    elements: &[T],
+    first: usize,
+    skip: usize,
+) -> u64
+    requires window { HasWindow T.BITS (map T.value elements.now) (elements_window_from T.BITS first skip (64 / T.BITS)) }
+    requires inside { skip < T.BITS }
+    requires narrow { T.BITS ≤ 64 }
+    ensures { element_bits 64 W.at result
+        ≡ list_in T.BITS W.at (map T.value elements.now) (elements_window_from T.BITS first skip (64 / T.BITS)) }
+{
+    let mut cells = Shared::new(elements);
+    let word = load_elements::<W, Shared<T>>(&mut cells, first);
+    if skip == 0 {
+        return word;
+    }
+    let next = elements[first + elements_of::<T>(WORD_BITS)];
+    let behind = moved::<W, T, u64>(next, 0, T::BITS as usize, 0);
+    joined::<W, u64>(word, behind, skip)
 }
 
 /// [`window_word`] of any order: each element is loaded once, and its bits are gathered one by one.

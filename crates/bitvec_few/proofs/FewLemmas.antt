@@ -24,7 +24,7 @@ use Rattle.bitvec_store.specs.WidthLaws.{at_each_width, width_some}
 use Rattle.bitvec_cells.specs.Cost.{fill_loads, touched_count}
 use Rattle.bitvec_cells.specs.ElementLaws.{element-count}
 use Rattle.bitvec_cells.specs.WalkLaws.{touched-none}
-use Rattle.bitvec_words.specs.Elements.{elements_window, elements_window_from}
+use Rattle.bitvec_words.specs.Elements.{elements_window}
 use Rattle.bitvec_words.specs.ShortWindow.{padded}
 use Rattle.bitvec_words.specs.FieldLaws.{element_of}
 use Rattle.bitvec_words.specs.FillingLaws.{fill_loads-some}
@@ -59,13 +59,7 @@ few-touched b s (suc n) some short =
     (λ (fits : s % b + suc n ≤ b). let one = touched-one b s (suc n) some (omega arith) fits in omega arith)
     (cases_lt b (s % b + suc n))
 
--- ---- 64 bits that begin inside an element
-
--- they are the window of a word from there on
-pub across-window : (b : ℕ) (window : Window) → IsWidth b → b ≤ 64 → window.len ≡ 64 → elements_window_from b (window.start / b) (window.start % b) (64 / b) ≡ window
-across-window b window width narrow size =
-    ap (λ (n : ℕ). (let it : Window = record { start = n; len = 64 / b * b } in it)) (div-add-mod' window.start b)
-    ∙ ap (λ (n : ℕ). (let it : Window = record { start = window.start; len = n } in it)) (word_whole b width narrow ∙ sym size)
+-- ---- 64 bits that begin inside an element narrower than a word
 
 module _ (b : ℕ) (window : Window) (width : IsWidth b) (narrow : b < 64) (size : window.len ≡ 64) (inside : window.start % b ≢ 0) where
   pub touched-across : touched_count b window.start window.len ≡ 64 / b + 1

@@ -6,4 +6,4 @@ mod element;
 mod word;
 
 pub use element::{load_element, load_element_after, load_short, store_short};
-pub use word::{is_few, load_across, load_parts, store_parts};
+pub use word::{is_few, load_parts, store_parts};

@@ -1,9 +1,8 @@
 //! Up to 64 bits of a window as the first bits of a word.
-ghost use Rattle.std.specs.Prelude.{◌≡◌, ◌≢◌, ◌+◌, ◌*◌, ◌/◌, ◌%◌, ◌<◌, ◌≤◌, false, take, true};
+ghost use Rattle.std.specs.Prelude.{◌≡◌, ◌≢◌, ◌%◌, ◌<◌, ◌≤◌, false, take, true};
 ghost use Rattle.bitvec_base.specs.Memory.{HasWindow, Writes, element_bits, list_in};
 ghost use Rattle.bitvec_cells.specs.Access.{CostsAtMost, OnlyReads};
 ghost use Rattle.bitvec_cells.specs.Cost.{fill_loads, touched_count};
-ghost use Rattle.bitvec_words.specs.Elements.{elements_window_from};
 ghost use Rattle.bitvec_words.specs.ShortWindow.{padded};
 
 use crate::element::{load_short, store_short};
@@ -40,11 +39,7 @@ pub fn load_parts<O: WordOrder, C: CellsRead>(cells: &mut C, window: Window) -> 
     if window.len < WORD_BITS {
         return load_each::<O, C>(cells, window);
     }
-    load_across::<O, C>(
-        cells,
-        window.element::<C::Elem>(),
-        window.phase::<C::Elem>(),
-    )
+    load_across::<O, C>(cells, window)
 }
 
 /// [`load_parts`] part by part of elements.
@@ -65,18 +60,18 @@ fn load_each<O: WordOrder, C: CellsRead>(cells: &mut C, window: Window) -> u64
     word
 }
 
-/// The 64 bits from the index `skip` of the element `first` on: those of one word, and what is left of them with the next
-/// element where they begin inside one. Conditions: no element is wider than a word, and the bits lie in a memory of at most
-/// `MAX_BITS` bits. It loads each element that the bits touch once.
+/// [`load_parts`] of 64 bits of elements narrower than a word: those of one word, and what is left of them with the next
+/// element where they begin inside one.
 #[inline(always)]
-pub fn load_across<O: WordOrder, C: CellsRead>(cells: &mut C, first: usize, skip: usize) -> u64
-    requires window { HasWindow C.Elem.BITS (C.numbers cells.old) (elements_window_from C.Elem.BITS first skip (64 / C.Elem.BITS)) }
-    requires inside { skip < C.Elem.BITS }
-    requires narrow { C.Elem.BITS ≤ 64 }
-    ensures value { element_bits 64 O.at result
-        ≡ list_in C.Elem.BITS O.at (C.numbers cells.old) (elements_window_from C.Elem.BITS first skip (64 / C.Elem.BITS)) }
-    ensures reads { OnlyReads C.CellsRead cells.old cells.new (touched_count C.Elem.BITS (first * C.Elem.BITS + skip) (64 / C.Elem.BITS * C.Elem.BITS)) }
+fn load_across<O: WordOrder, C: CellsRead>(cells: &mut C, window: Window) -> u64
+    requires window { HasWindow C.Elem.BITS (C.numbers cells.old) window }
+    requires size { window.len ≡ 64 }
+    requires narrow { C.Elem.BITS < 64 }
+    ensures value { element_bits 64 O.at result ≡ list_in C.Elem.BITS O.at (C.numbers cells.old) window }
+    ensures reads { OnlyReads C.CellsRead cells.old cells.new (touched_count C.Elem.BITS window.start window.len) }
 {
+    let first = window.element::<C::Elem>();
+    let skip = window.phase::<C::Elem>();
     let word = load_elements::<O, C>(cells, first);
     if skip == 0 {
         return word;

@@ -1,7 +1,7 @@
 use Rattle.bitvec_checked.proofs.transfers.copy.Goals as goal
 
-pub copy_in-requires : goal.copy_in-requires
-copy_in-requires g c = record { window = c.equal_windows_status-status.ensures.window c.if-status-eq-DONE.true; right_window = c.equal_windows_status-status.ensures.right_window c.if-status-eq-DONE.true; lengths = c.equal_windows_status-status.ensures.lengths c.if-status-eq-DONE.true }
+pub copy_from_long_block_in-requires : goal.copy_from_long_block_in-requires
+copy_from_long_block_in-requires g c = record { window = c.equal_windows_status-status.ensures.window c.if-status-eq-DONE.true; right_window = c.equal_windows_status-status.ensures.right_window c.if-status-eq-DONE.true; lengths = c.equal_windows_status-status.ensures.lengths c.if-status-eq-DONE.true }
 
-pub copy_in-requires-in_default : goal.copy_in-requires-in_default
-copy_in-requires-in_default g c = record { window = c.equal_windows_status-status.ensures.window c.if-status-eq-DONE.true; right_window = c.equal_windows_status-status.ensures.right_window c.if-status-eq-DONE.true; lengths = c.equal_windows_status-status.ensures.lengths c.if-status-eq-DONE.true }
+pub copy_from_long_block_in-requires-in_default : goal.copy_from_long_block_in-requires-in_default
+copy_from_long_block_in-requires-in_default g c = record { window = c.equal_windows_status-status.ensures.window c.if-status-eq-DONE.true; right_window = c.equal_windows_status-status.ensures.right_window c.if-status-eq-DONE.true; lengths = c.equal_windows_status-status.ensures.lengths c.if-status-eq-DONE.true }

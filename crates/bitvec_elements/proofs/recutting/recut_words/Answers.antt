@@ -14,7 +14,7 @@ loop-step-init g c = record {
 pub loop-step-preserved : goal.loop-step-preserved
 loop-step-preserved g c = record {
   writes = word-recut g.V.BitOrder.at c.loop-step.step _ _ g.met.T.BitStore.width_law g.met.U.BitStore.width_law c.BITS.ensures c.BITS-2.ensures c.requires.narrow c.requires.right_narrow
-      c.requires.pair c.requires.edge (omega arith) (omega arith) (rw c.new.ensures.numbers at c.load_across-word.ensures.value) c.reordered-made.ensures c.loop-step.invariant.writes c.store_elements.ensures.writes;
+      c.requires.pair c.requires.edge (omega arith) (omega arith) c.word_behind-word.ensures c.reordered-made.ensures c.loop-step.invariant.writes c.store_elements.ensures.writes;
   borrow = search rules;
 }
 
