@@ -5,6 +5,7 @@ ghost use Rattle.bitvec_checked.specs.Calls.{AsksBeside};
 ghost use Rattle.bitvec_checked.specs.Replies.{bit_of, order_number, order_of};
 ghost use Rattle.bitvec_checked.specs.Statuses.{bits_from};
 
+use crate::shifted::eq_shifted_in;
 use crate::status::{DONE, windows_status};
 use bitvec_base::Window;
 use bitvec_elements::{compare_block_in, eq_blocks_in};
@@ -30,7 +31,7 @@ pub fn equal<T: BitStore>(
         order,
         elements[start, len],
         right[right_start, right_len],
-        eq_blocks_in::<T>
+        eq_blocks_in::<T> or eq_shifted_in
     )
 }
 

@@ -2,8 +2,16 @@
 //! call whose condition fails answers a status and writes nothing.
 #![tactic(auto)]
 
-/// Calls a function of the order of a number, which is one.
+/// Calls a function of the order of a number, which is one. The function behind the word `or` is called of short windows that
+/// begin at different indices of their elements.
 macro_rules! under {
+    ($order:expr, $function:ident::<$element:ty>($elements:expr, $window:expr, $right:expr, $right_window:expr $(, $argument:expr)*) or $shifted:ident) => {
+        if $crate::shifted::are_short_shifted::<$element>($window, $right_window) {
+            under!($order, $shifted::<$element>($elements, $window, $right, $right_window $(, $argument)*))
+        } else {
+            under!($order, $function::<$element>($elements, $window, $right, $right_window $(, $argument)*))
+        }
+    };
     ($order:expr, $function:ident::<$element:ty>($($argument:expr),*)) => {
         match $order {
             $crate::status::LSB0 => $function::<$element, bitvec_base::Lsb0>($($argument),*),
@@ -33,7 +41,7 @@ macro_rules! tested {
 /// the tests have passed. Behind the function stand its other arguments. A place in front of the order gets the answer.
 macro_rules! tested_beside {
     ($test:ident, $(*$answer:ident,)? $order:ident, $elements:ident[$start:ident, $len:ident], $right:ident[$right_start:ident, $right_len:ident],
-        $function:ident::<$element:ty> $(, $argument:expr)*) => {{
+        $function:ident::<$element:ty> $(or $shifted:ident)? $(, $argument:expr)*) => {{
         let window = Window {
             start: $start,
             len: $len,
@@ -47,7 +55,7 @@ macro_rules! tested_beside {
             status,
             $(*$answer,)?
             $order,
-            $function::<$element>($elements, window, $right, right_window $(, $argument)*)
+            $function::<$element>($elements, window, $right, right_window $(, $argument)*) $(or $shifted)?
         )
     }};
 }
@@ -62,6 +70,7 @@ mod needles;
 mod numbers;
 mod pairs;
 mod scanning;
+mod shifted;
 mod status;
 mod transfers;
 

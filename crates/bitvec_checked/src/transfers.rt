@@ -4,6 +4,7 @@ ghost use Rattle.bitvec_checked.specs.Calls.{EditsBeside, Joins, Swaps};
 ghost use Rattle.bitvec_checked.specs.Pairs.{only_first};
 ghost use Rattle.bitvec_checked.specs.Statuses.{bits_from};
 
+use crate::shifted::copy_shifted_in;
 use crate::status::{equal_windows_status, windows_status};
 use bitvec_base::Window;
 use bitvec_elements::{combine_block_in, copy_from_long_block_in, swap_with_block_in};
@@ -27,7 +28,7 @@ pub fn copy<T: BitStore>(
         order,
         elements[start, len],
         right[right_start, right_len],
-        copy_from_long_block_in::<T>
+        copy_from_long_block_in::<T> or copy_shifted_in
     )
 }
 

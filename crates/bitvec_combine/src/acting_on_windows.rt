@@ -72,14 +72,13 @@ pub fn act_phased<O: BitOrder, C: CellsRead, D: CellsRead<Elem = C::Elem>, A: Ac
 
 /// Acts on a window that begins where an element does.
 #[inline(always)]
-fn act_from_edge<O: BitOrder, C: CellsRead, D: CellsRead<Elem = C::Elem>, A: Act<C>, P: Phases<O>>(
-    left: &mut C,
-    to: Window,
-    right: &mut D,
-    from: Window,
-    carry: C::Elem,
-    act: &mut A,
-)
+pub(crate) fn act_from_edge<
+    O: BitOrder,
+    C: CellsRead,
+    D: CellsRead<Elem = C::Elem>,
+    A: Act<C>,
+    P: Phases<O>,
+>(left: &mut C, to: Window, right: &mut D, from: Window, carry: C::Elem, act: &mut A)
     requires met { HasMet C.Elem.BITS (C.numbers left.old) (D.numbers right.old) to from }
     requires edge { to.start % C.Elem.BITS ≡ 0 }
     requires phases { (0 == from.start % C.Elem.BITS) ≡ P.equal }

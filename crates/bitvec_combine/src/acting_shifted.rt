@@ -112,7 +112,7 @@ fn act_in_turns<
 /// in a form that fits the width. It takes a stretch's numbers: the compiler may know `skip`, and a struct's fields
 /// count where it is seen how much is inlined.
 #[inline(always)]
-fn act_carried<
+pub(crate) fn act_carried<
     O: WordOrder,
     C: CellsRead,
     D: CellsRead<Elem = C::Elem>,

@@ -1,5 +1,5 @@
 //! The bits of two windows compared, many at a time.
-ghost use Rattle.std.specs.Prelude.{◌≡◌, ◌≢◌, ◌%◌, ◌<◌, ◌==◌, true, not, length};
+ghost use Rattle.std.specs.Prelude.{◌≡◌, ◌≢◌, ◌%◌, ◌<◌, ◌==◌, true, false, not, length};
 ghost use Rattle.std.proofs.Common.{ap};
 ghost use Rattle.bitvec_base.specs.Lists.{same_bits};
 ghost use Rattle.bitvec_base.specs.Memory.{HasWindow, list_in};
@@ -9,7 +9,7 @@ ghost use Rattle.bitvec_cells.specs.Cost.{equal_loads, touched_count};
 ghost use Rattle.bitvec_combine.specs.DifferLaws.{finds-both, finds-early, finds-none};
 ghost use Rattle.bitvec_combine.specs.Sides.{FindsDifference};
 
-use crate::{Act, Equal, Phases, Shifted, act_phased};
+use crate::{Act, Equal, Phases, Shifted, act_phased, act_short};
 use bitvec_base::{BitOrder, Part, Window, elements_of};
 use bitvec_cells::CellsRead;
 use bitvec_store::BitStore;
@@ -22,7 +22,8 @@ const BITS_PER_TEST: usize = 2048;
 /// Compares windows that are shorter than that.
 const BITS_PER_SHORT_TEST: usize = 1024;
 
-/// The act that gathers in an element each bit that differs, and stops soon after one.
+/// The act that gathers in an element each bit that differs, and stops soon after one: after so many bits tested, or
+/// only behind all whole elements if these are 0.
 #[derive(Clone, Copy)]
 struct Differ<T: BitStore, const TESTED: usize> {
     found: T,
@@ -35,7 +36,7 @@ impl<T: BitStore, C: CellsRead<Elem = T>, const TESTED: usize> Act<C> for Differ
 
     #[inline(always)]
     fn span() -> usize {
-        elements_of::<T>(TESTED).max(1)
+        elements_of::<T>(TESTED)
     }
 
     #[inline(always)]
@@ -162,5 +163,31 @@ fn equal_in_phases<
         found: C::Elem::ZERO,
     };
     act_phased::<O, C, D, Differ<C::Elem, TESTED>, P>(left, window, right, other, &mut act);
+    is_zero::<C::Elem>(act.found)
+}
+
+/// Whether a window has the bits of one that is as long and begins at a different index of its element; neither is empty. Prefer
+/// it where they are short: no test ends it early. Condition: as for [`crate::equal`]. It loads each element that a
+/// window touches at most once.
+#[inline(always)]
+pub fn equal_shifted<O: WordOrder, C: CellsRead, D: CellsRead<Elem = C::Elem>>(
+    left: &mut C,
+    window: Window,
+    right: &mut D,
+    other: Window,
+) -> bool
+    requires span { HasSpan C.Elem.BITS (C.numbers left.old) (D.numbers right.old) window other }
+    requires some { 0 < window.len }
+    requires phases { (window.start % C.Elem.BITS == other.start % C.Elem.BITS) ≡ false }
+    ensures value { result ≡ same_bits (list_in C.Elem.BITS O.at (C.numbers left.old) window)
+        (list_in C.Elem.BITS O.at (D.numbers right.old) other) }
+    ensures reads { OnlyReadsAtMost C.CellsRead left.old left.new (touched_count C.Elem.BITS window.start window.len) }
+    ensures right { OnlyReadsAtMost D.CellsRead right.old right.new (touched_count C.Elem.BITS other.start other.len) }
+{
+    C::Elem::fits_in_memory();
+    let mut act = Differ::<C::Elem, 0> {
+        found: C::Elem::ZERO,
+    };
+    act_short::<O, C, D, Differ<C::Elem, 0>>(left, window, right, other, &mut act);
     is_zero::<C::Elem>(act.found)
 }

@@ -1,5 +1,5 @@
 //! Bits copied from one window to another.
-ghost use Rattle.std.specs.Prelude.{◌≡◌, ◌%◌, ◌<◌, true, false};
+ghost use Rattle.std.specs.Prelude.{◌≡◌, ◌%◌, ◌==◌, ◌<◌, true, false};
 ghost use Rattle.std.proofs.Common.{rules};
 ghost use Rattle.bitvec_base.specs.Spans.{HasSpan};
 ghost use Rattle.bitvec_cells.specs.Access.{CostsAtMost, OnlyReadsAtMost};
@@ -11,6 +11,7 @@ ghost use Rattle.bitvec_combine.specs.PutLaws.{Puts-join, Puts-none};
 use crate::acting::Act;
 use crate::acting_equal::Equal;
 use crate::acting_on_windows::{act, act_phased};
+use crate::acting_short::act_short;
 use bitvec_base::{BitOrder, Part, Window};
 use bitvec_cells::{Cells, CellsRead};
 use bitvec_store::BitStore;
@@ -104,4 +105,24 @@ pub fn copy_equal<O: BitOrder, C: Cells, D: CellsRead<Elem = C::Elem>>(
 {
     let as_long = from.until(from.len - to.len);
     act_phased::<O, C, D, Put, Equal>(left, to, right, as_long, &mut Put {});
+}
+
+/// [`copy`] of windows that aren't empty and begin at different indices of their elements: prefer it where they are
+/// short. Condition: as for [`crate::copy`]. On the left it stores each element that the window touches once, and loads
+/// at most the first and the last; on the right it loads each once.
+#[inline(always)]
+pub fn copy_shifted<O: WordOrder, C: Cells, D: CellsRead<Elem = C::Elem>>(
+    left: &mut C,
+    to: Window,
+    right: &mut D,
+    from: Window,
+)
+    requires span { HasSpan C.Elem.BITS (C.numbers left.old) (D.numbers right.old) to from }
+    requires some { 0 < to.len }
+    requires phases { (to.start % C.Elem.BITS == from.start % C.Elem.BITS) ≡ false }
+    ensures writes { Copies C.Elem.BITS O.at (C.numbers left.old) (C.numbers left.new) to (D.numbers right.old) from }
+    ensures cost { CostsAtMost C.CellsRead left.old left.new 2 (touched_count C.Elem.BITS to.start to.len) }
+    ensures right { OnlyReadsAtMost D.CellsRead right.old right.new (touched_count C.Elem.BITS from.start from.len) }
+{
+    act_short::<O, C, D, Put>(left, to, right, from, &mut Put {});
 }
