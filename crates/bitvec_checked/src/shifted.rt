@@ -1,6 +1,6 @@
 //! Short windows of two memories that begin at different indices of their elements: each operation in one loop, with little
 //! before it.
-ghost use Rattle.std.specs.Prelude.{◌≡◌, ◌%◌, ◌==◌, ◌<◌, true, false, map};
+ghost use Rattle.std.specs.Prelude.{◌≡◌, ◌*◌, ◌%◌, ◌==◌, ◌<◌, ◌≤◌, ◌↔◌, IsTrue, true, false, map};
 ghost use Rattle.bitvec_base.specs.Lists.{same_bits};
 ghost use Rattle.bitvec_base.specs.Memory.{list_in};
 ghost use Rattle.bitvec_base.specs.Spans.{HasSpan};
@@ -20,6 +20,7 @@ const SHORT_BITS: usize = 9 * 128;
 /// narrower elements are faster where the compiler knows by how much it shifts.
 #[inline(always)]
 pub(crate) fn are_short_shifted<T: BitStore>(window: Window, right_window: Window) -> bool
+    ensures short { IsTrue result ↔ (32 ≤ T.BITS) × ((window.start % T.BITS == right_window.start % T.BITS) ≡ false) × (window.len ≡ right_window.len) × (0 < window.len) × (window.len < 9 * 128) }
     ensures some { result ≡ true → 0 < window.len }
     ensures lengths { result ≡ true → window.len ≡ right_window.len }
     ensures phases { result ≡ true → (window.start % T.BITS == right_window.start % T.BITS) ≡ false }
