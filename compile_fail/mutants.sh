@@ -1,10 +1,11 @@
 #!/usr/bin/env bash
-# Wrong bodies that tests show. Most are of calls that say nothing of what their lender is afterwards, so that every clause
-# admits them; the others are of crates without edits. The first line of each patch in compile_fail/mutants names a tests' crate and
-# the tests that must fail with it, and the next one says what it breaks. Patches are applied to a copy of the tree, and a run of the
-# crate's tests, with no proofs, has to show each named test as failed. Patches of one crate are tried together where they name
-# different tests. They change different lines, and no test that one names makes a call that another breaks; one that breaks such
-# calls says `alone` before its tests. With names as arguments these patches alone are tried, each in a run of its own.
+# Wrong bodies that tests show. Every clause admits most of them: their calls say nothing of what their lender is afterwards,
+# may always answer that memory was refused, or are held to no number of operations. The others are of crates without edits in
+# the gate. The first line of each patch in compile_fail/mutants names a tests' crate and the tests that must fail with it,
+# and the next one says what it breaks. Patches are applied to a copy of the tree, and a run of the crate's tests, with no
+# proofs, has to show each named test as failed. Patches of one crate are tried together where they name different tests. They
+# change different lines, and no test that one names makes a call that another breaks; one that breaks such calls says `alone`
+# before its tests. With names as arguments these patches alone are tried, each in a run of its own.
 set -euo pipefail
 cd "$(dirname "$0")/.."
 mutants=$PWD/compile_fail/mutants

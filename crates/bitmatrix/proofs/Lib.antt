@@ -1,5 +1,4 @@
 pub mod ChainLaws
-pub mod NumberLaws
 pub mod PairLaws
 pub mod PathLaws
 pub mod RowLaws

@@ -4,7 +4,7 @@ use Rattle.std.specs.Char.{digit_value, is_ascii_digit}
 use Rattle.std.specs.List.{list_all}
 use Rattle.std.specs.Option.{option_map}
 use Rattle.std.specs.Str.{bytes_eq}
-use Rattle.std.specs.Str.Parse.{digits_value, without_leading_plus}
+use Rattle.numerals.specs.Numerals.{number_of}
 use Rattle.bitvec.specs.Arrays.{lsb0_bits}
 use Rattle.bitmatrix.specs.declared.graph.Graph.{Graph}
 use Rattle.bitmatrix.specs.declared.arguments.Request.{Request}
@@ -13,16 +13,6 @@ use Rattle.bitmatrix.specs.declared.arguments.Request.TheVariants.{Rows, Pairs, 
 infixl 10 ◌>>=◌
 abbrev pub ◌>>=◌ : {A B : Type 0} → Option A → (A → Option B) → Option B
 o >>= f = option_and_then f o
-
--- the number of one or more decimal digits, where it fits 64 bits
-abbrev pub numeral_of : List ℕ → Option ℕ
-numeral_of digits =
-    if nat_lt 0 (length digits) && list_all is_ascii_digit digits && nat_lt (digits_value 10 digits) (2 ^ 64)
-    then Some (digits_value 10 digits) else None
-
--- a plus may stand before the digits
-abbrev pub number_of : List ℕ → Option ℕ
-number_of word = numeral_of (without_leading_plus word)
 
 -- the value of a hexadecimal digit, in either case
 abbrev pub digit_of : ℕ → Option ℕ
@@ -69,5 +59,5 @@ request_of words =
     let verb : List ℕ = word_at words 0 in
     if bytes_eq verb (codes "rows") && length words == 1 then Some rows
     else if bytes_eq verb (codes "pairs") && nat_lt 0 (length words) then option_map (λ bits. pairs bits) (bits_in (drop 1 words))
-    else if bytes_eq verb (codes "chain") && length words == 2 then option_map (λ count. chain count) (number_of (word_at words 1))
+    else if bytes_eq verb (codes "chain") && length words == 2 then option_map (λ count. chain count) (number_of 64 (word_at words 1))
     else None

@@ -1,9 +1,10 @@
 //! The words after the program's name.
 ghost use Rattle.std.specs.Prelude.{◌≡◌, ◌<◌, IfSome, IfNone, None, Some, map, string_bytes};
 ghost use Rattle.std.specs.Option.{option_map};
-ghost use Rattle.bitmatrix.specs.Arguments.{asked, bits_in, bits_of, digit_of, number_of, pair_of, paired, request_of, with_pair};
+ghost use Rattle.bitmatrix.specs.Arguments.{asked, bits_in, bits_of, digit_of, pair_of, paired, request_of, with_pair};
 
 use crate::graph::Graph;
+use numerals::parse_usize;
 
 /// What is asked for.
 #[derive(Drop)]
@@ -48,13 +49,6 @@ fn parse_pairs(words: &[String]) -> Option<Graph>
     Some(graph)
 }
 
-/// The number of a word of decimal digits, which a plus may precede.
-fn parse_number(word: &str) -> Option<usize>
-    ensures { result ≡ number_of word.now }
-{
-    word.parse().ok()
-}
-
 impl Request {
     /// Reads the words: `rows`, `pairs` and any number of pairs, or `chain N`. `None` if they are
     /// anything else.
@@ -67,7 +61,7 @@ impl Request {
         match (verb.as_str(), given) {
             ("rows", []) => Some(Request::Rows),
             ("pairs", pairs) => Some(Request::Pairs(parse_pairs(pairs)?)),
-            ("chain", [count]) => Some(Request::Chain(parse_number(count.as_str())?)),
+            ("chain", [count]) => Some(Request::Chain(parse_usize(count.as_str())?)),
             _ => None,
         }
     }

@@ -1,7 +1,8 @@
 //! The closures of relations that are read, or made.
-ghost use Rattle.std.specs.Prelude.{◌≡◌, ◌+◌, ◌*◌, ◌≤◌, IfOk, OnOk, length};
+ghost use Rattle.std.specs.Prelude.{◌≡◌, ◌⊎◌, ◌+◌, ◌*◌, ◌≤◌, IfErr, IfOk, OnOk, length};
 ghost use Rattle.bitvec.specs.Arrays.{lsb0_bits};
 ghost use Rattle.bitvec.specs.Window.{max_bits};
+ghost use Rattle.bitmatrix.specs.declared.fault.Fault.TheVariants.{Input, Memory, Output};
 ghost use Rattle.bitmatrix.specs.Program.{ClosesInput, ClosesText, CountsChain, PrintsClosed};
 
 use crate::chain::link;
@@ -38,7 +39,8 @@ fn close_text<A: Allocator, W: Write>(
 ) -> Result<(), Fault>
     requires room { n * n ≤ 64 * length elements.old }
     requires bound { 64 * length elements.old ≤ max_bits }
-    ensures { OnOk result (ClosesText text.now (W.contents output.old) (W.contents output.new)) }
+    ensures printed { OnOk result (ClosesText text.now (W.contents output.old) (W.contents output.new)) }
+    ensures fault { IfErr result (λ fault. (fault ≡ Input) ⊎ (fault ≡ Memory) ⊎ (fault ≡ Output)) }
 {
     let mut matrix = BitSliceMut::<u64, Lsb0>::from_slice_mut(elements).into_part(0..n * n);
     fill_from(&mut matrix, text);
@@ -57,7 +59,8 @@ pub fn close_rows<A: Allocator + Copy, R: Read, W: Write>(
     input: &mut R,
     output: &mut W,
 ) -> Result<(), Fault>
-    ensures { OnOk result (ClosesInput (R.remaining input.old) (W.contents output.old) (W.contents output.new)) }
+    ensures printed { OnOk result (ClosesInput (R.remaining input.old) (W.contents output.old) (W.contents output.new)) }
+    ensures fault { IfErr result (λ fault. (fault ≡ Input) ⊎ (fault ≡ Memory) ⊎ (fault ≡ Output)) }
 {
     let text = read_text(alloc, input)?;
     let n = rows_in(text.as_slice()).ok_or(Fault::Input)?;
@@ -67,7 +70,8 @@ pub fn close_rows<A: Allocator + Copy, R: Read, W: Write>(
 
 /// Closes the relation of a graph, and prints the rows of its closure.
 pub fn close_pairs<W: Write>(mut graph: Graph, output: &mut W) -> Result<(), Fault>
-    ensures { OnOk result (PrintsClosed 16 (lsb0_bits 64 graph.words) (W.contents output.old) (W.contents output.new)) }
+    ensures printed { OnOk result (PrintsClosed 16 (lsb0_bits 64 graph.words) (W.contents output.old) (W.contents output.new)) }
+    ensures fault { IfErr result (λ fault. fault ≡ Output) }
 {
     graph.close();
     graph.print(output).or(Err(Fault::Output))
@@ -77,7 +81,8 @@ pub fn close_pairs<W: Write>(mut graph: Graph, output: &mut W) -> Result<(), Fau
 fn count_in<W: Write>(n: usize, elements: &mut [u64], output: &mut W) -> Result<(), Fault>
     requires room { n * n ≤ 64 * length elements.old }
     requires bound { 64 * length elements.old ≤ max_bits }
-    ensures { OnOk result (CountsChain n (W.contents output.old) (W.contents output.new)) }
+    ensures printed { OnOk result (CountsChain n (W.contents output.old) (W.contents output.new)) }
+    ensures fault { IfErr result (λ fault. fault ≡ Output) }
 {
     let mut matrix = BitSliceMut::<u64, Lsb0>::from_slice_mut(elements).into_part(0..n * n);
     link(&mut matrix, n);
@@ -87,7 +92,8 @@ fn count_in<W: Write>(n: usize, elements: &mut [u64], output: &mut W) -> Result<
 
 /// Prints how many ones the closure of the chain of n places has.
 pub fn count_chain<A: Allocator, W: Write>(alloc: A, n: usize, output: &mut W) -> Result<(), Fault>
-    ensures { OnOk result (CountsChain n (W.contents output.old) (W.contents output.new)) }
+    ensures printed { OnOk result (CountsChain n (W.contents output.old) (W.contents output.new)) }
+    ensures fault { IfErr result (λ fault. (fault ≡ Memory) ⊎ (fault ≡ Output)) }
 {
     let bits = n.checked_mul(n).ok_or(Fault::Memory)?;
     let mut elements = zeros(alloc, bits)?;

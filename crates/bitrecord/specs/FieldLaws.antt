@@ -1,15 +1,19 @@
 -- One field of a list of bits written: what the numbers of all fields are then. For callers.
-use Rattle.std.specs.Prelude.{◌≡◌, ℕ, ◌+◌, ◌^◌, ◌<◌, ◌≤◌, ◌⊎◌, Bool, List, length, slice_index_or, slice_set}
-use Rattle.std.proofs.Common.{arith, sym, ◌∙◌, ap, inl, inr, ⊎_elim}
+use Rattle.std.specs.Prelude.{◌≡◌, ℕ, ◌+◌, ◌^◌, ◌<◌, ◌≤◌, ◌⊎◌, Bool, List, OnOk, Result, length, slice_index_or, slice_set}
+use Rattle.std.proofs.Common.{Err, Ok, arith, sym, ◌∙◌, ap, inl, inr, ⊎_elim}
 use Rattle.std.proofs.lemmas.Bool.{cases_lt}
 use Rattle.std.proofs.lemmas.List.{get_or-map, get_or-set_other, get_or-set_same, length-map, length-set, same_lists}
-use Rattle.bitvec.specs.Types.{Window}
+use Rattle.bitvec.specs.ShowingLaws.{length-seen_mut}
+use Rattle.bitvec.specs.Types.{BitSliceMut, Order, Store, Window}
+use Rattle.bitvec.specs.Views.{seen_mut}
 use Rattle.bitvec.specs.Window.{IsWithin, window_of}
 use Rattle.bitvec.specs.WindowLaws.{get-window, length-window}
 use Rattle.bitrecord.specs.Layouts.{AreApart, IsLayout, field_at, no_field}
 use Rattle.bitrecord.specs.RecordLaws.{number-fits}
-use Rattle.bitrecord.specs.Records.{IsBeside, field_number, number_of, record_in}
+use Rattle.bitrecord.specs.Records.{IsBeside, WritesField, field_number, number_of, record_in}
 use Rattle.bitrecord.specs.declared.endian.Endian.{Endian}
+use Rattle.bitrecord.specs.declared.layout.Layout.{Layout}
+use Rattle.bitrecord.specs.Views.{bits_of, fields_of}
 
 three_ways : (k n : ℕ) → (k < n) ⊎ ((k ≡ n) ⊎ (n < k))
 three_ways k n = grind arith
@@ -70,3 +74,23 @@ module _ (endian : Endian) (high : Bool) (b s : ℕ) where
       → field_number endian high b s list (field_at fields n) < 2 ^ (field_at fields n).len
   number-below bits n fields list layout long below =
       rw (length-window list (field_at fields n) (rw long (layout.inside n below))) at (number-fits endian high b (s + (field_at fields n).start) (window_of list (field_at fields n)))
+
+module _ {T O : Type 0} {t : Store T} {o : Order O} (endian : Endian) (high : Bool) where
+  -- After one field was written, the numbers of a record are the old ones with this one set.
+  pub record-set : (bits n value : ℕ) (fields : List Window) (before after : BitSliceMut T O t o) → IsLayout bits fields → (seen_mut before).window.len ≡ bits → n < length fields
+      → WritesField endian high (field_at fields n) value before after
+      → record_in endian high t.BITS (seen_mut after).window.start (seen_mut after).bits fields ≡ slice_set (record_in endian high t.BITS (seen_mut before).window.start (seen_mut before).bits fields) n value
+  record-set bits n value fields before after layout many below wrote =
+      let place = wrote.written.window in
+      ap (λ (w : Window). record_in endian high t.BITS w.start (seen_mut after).bits fields) place
+      ∙ numbers-set endian high t.BITS (seen_mut before).window.start bits n value fields (seen_mut before).bits (seen_mut after).bits layout (length-seen_mut before ∙ many)
+      (length-seen_mut after ∙ ap (λ (w : Window). w.len) place ∙ many) below
+      (ap (λ (w : Window). field_number endian high t.BITS w.start (seen_mut after).bits (field_at fields n)) (sym place) ∙ wrote.number) wrote.others
+
+  -- Where a call wrote one field, if it succeeded, the numbers of a record are then the old ones with this one set.
+  pub record-set_ok : {A X E : Type 0} (layout : Layout A) (n value : ℕ) (fields : List Window) (before after : BitSliceMut T O t o) (result : Result X E) → fields_of layout ≡ fields
+      → (seen_mut before).window.len ≡ bits_of layout → n < length fields → OnOk result (WritesField endian high (field_at (fields_of layout) n) value before after)
+      → OnOk result (record_in endian high t.BITS (seen_mut after).window.start (seen_mut after).bits fields ≡ slice_set (record_in endian high t.BITS (seen_mut before).window.start (seen_mut before).bits fields) n value)
+  record-set_ok layout n value fields before after (Ok done) is many below wrote =
+      record-set (bits_of layout) n value fields before after (rw is at layout.layout) many below (rw is at wrote)
+  record-set_ok layout n value fields before after (Err fault) is many below wrote = tt

@@ -1,7 +1,10 @@
 pub mod FieldLaws
+pub mod Laws
 pub mod Layouts
 pub mod RecordLaws
 pub mod Records
 pub mod Runs
 pub mod RunWrites
+pub mod TableLaws
+pub mod Tables
 pub mod Views

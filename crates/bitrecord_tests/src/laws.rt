@@ -1,13 +1,17 @@
 //! What a caller knows of a record that is encoded and decoded, and of two records.
-ghost use Rattle.std.specs.Prelude.{◌≡◌, IsOk, IsPermutation, OnOk, length, zip};
+ghost use Rattle.std.specs.Prelude.{◌≡◌, IfErr, IfOk, IsOk, IsPermutation, OnOk, length, slice_index, slice_set, true, zip};
 ghost use Rattle.bitrecord.specs.Views.{bits_of, fields_of};
 ghost use Rattle.bitrecord.specs.RecordLaws.{AgreeOutside};
+ghost use Rattle.bitrecord.specs.Records.{record_in};
+ghost use Rattle.bitrecord.specs.declared.endian.Endian.TheVariants.{Big};
+ghost use Rattle.bitrecord.specs.declared.layout_error.LayoutError.TheVariants.{Memory};
+ghost use Rattle.bitrecord_tests.specs.declared.laws.TheConstants.{PLACES};
 ghost use Rattle.bitvec.specs.Writes.{WritesBits};
 ghost use Rattle.bitvec.specs.Views.{seen, seen_mut};
 
-use bitrecord::bits::{BitSlice, BitSliceMut, BitStore, FieldOrder};
-use bitrecord::{EncodeError, Endian, Layout, decode, encode};
-use std::alloc::Allocator;
+use bitrecord::bits::{BitSlice, BitSliceMut, BitStore, FieldOrder, Msb0, Window};
+use bitrecord::{EncodeError, Endian, Layout, LayoutError, decode, decode_one, encode, encode_one};
+use std::alloc::{Allocator, Global};
 
 /// Encodes values, and decodes the record: the numbers are the values.
 pub fn write_and_read<T: BitStore, O: FieldOrder, A: Allocator>(
@@ -83,4 +87,64 @@ pub fn write_in_orders<T: BitStore, O: FieldOrder, A: Allocator>(
 {
     encode(layout, endian, values, view)?;
     encode(reordered, endian, others, twin)
+}
+
+/// Where a version of four bits stands in a header, and a length of twelve.
+const PLACES: [Window; 2] = [Window { start: 0, len: 4 }, Window { start: 4, len: 12 }];
+
+/// The layout of a header. Only memory can be missing.
+#[tactic(auto, using(bitrecord::specs::Laws::records))]
+pub fn header_layout<A: Allocator>(alloc: A) -> Result<Layout<A>, LayoutError>
+    ensures places { IfOk result (λ layout. fields_of layout ≡ PLACES) }
+    ensures bits { IfOk result (λ layout. bits_of layout ≡ 16) }
+    ensures memory { IfErr result (λ why. why ≡ Memory) }
+{
+    Layout::new(alloc, 16, &PLACES)
+}
+
+/// Sets the length of a header; its version stays. Conditions: the layout is that of a header, and the view has as many bits.
+#[tactic(auto, using(bitrecord::specs::Laws::records))]
+pub fn set_len<A: Allocator>(
+    layout: &Layout<A>,
+    len: u16,
+    view: &mut BitSliceMut<'_, u8, Msb0>,
+) -> Result<(), EncodeError>
+    requires places { fields_of layout.now ≡ PLACES }
+    requires bits { (seen_mut view.old).window.len ≡ bits_of layout.now }
+    ensures { OnOk result (record_in Big true 8 (seen_mut view.new).window.start (seen_mut view.new).bits PLACES
+        ≡ slice_set (record_in Big true 8 (seen_mut view.old).window.start (seen_mut view.old).bits PLACES) 1 len) }
+{
+    encode_one(layout, Endian::Big, 1, u128::from(len), view)
+}
+
+/// The length of a header. Conditions: as for [`set_len`].
+#[tactic(auto, using(bitrecord::specs::Laws::records))]
+pub fn len_of<A: Allocator>(layout: &Layout<A>, view: BitSlice<'_, u8, Msb0>) -> u16
+    requires places { fields_of layout.now ≡ PLACES }
+    requires bits { (seen view).window.len ≡ bits_of layout.now }
+    ensures { result ≡ slice_index (record_in Big true 8 (seen view.entry).window.start (seen view.entry).bits PLACES) 1 }
+{
+    decode_one(layout, Endian::Big, view, 1) as u16
+}
+
+/// Whether a length is set, and is read then.
+fn is_set(alloc: Global, bytes: &mut [u8; 2], len: u16) -> bool {
+    match header_layout(alloc) {
+        Ok(layout) => {
+            let mut view = BitSliceMut::<u8, Msb0>::from_slice_mut(bytes);
+            if set_len(&layout, len, &mut view).is_err() {
+                return false;
+            }
+            len_of(&layout, BitSlice::<u8, Msb0>::from_slice(bytes)) == len
+        }
+        Err(_) => false,
+    }
+}
+
+// The version 1010 stays; 1 0000 0000 0000 has thirteen bits.
+#[test]
+fn a_length_is_set(rt: HostRuntime) {
+    let mut bytes = [0xA0u8, 0x01];
+    assert!(rt; is_set(rt.alloc(), &mut bytes, 0x123) && bytes == [0xA1, 0x23]);
+    assert!(rt; !is_set(rt.alloc(), &mut bytes, 0x1000) && bytes == [0xA1, 0x23]);
 }

@@ -66,7 +66,7 @@ fn refusal_of(alloc: Global, values: &[u128], bytes: &mut [u8; 2]) -> Option<Enc
 #[test]
 fn values_are_refused(rt: HostRuntime) {
     let mut bytes = [0xA5u8, 0x5A];
-    let range = refusal_of(rt.alloc(), &[5, 128, 33], &mut bytes);
+    let range = refusal_of(rt.alloc(), &[2, 128, 33], &mut bytes);
     assert!(rt; range == Some(EncodeError::Range(1)));
     let count = refusal_of(rt.alloc(), &[5, 85], &mut bytes);
     assert!(rt; count == Some(EncodeError::Count));

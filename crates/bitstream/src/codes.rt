@@ -1,7 +1,7 @@
 //! Numbers written to bytes in Elias gamma codes, and read from them. The highest bit of each byte comes first.
 ghost use Rattle.std.specs.Prelude.{◌≡◌, ◌+◌, ◌*◌, ◌<◌, ◌≤◌, IfOk, IfSome, IfNone, OnErr, OnOk, if◌then◌else◌, is_ok, length};
 ghost use Rattle.std.specs.List.{All};
-ghost use Rattle.bitvec.specs.Cursors.{KeepsElements, lender_of, reading, writing};
+ghost use Rattle.bitvec.specs.Cursors.{KeepsElements, lender_of, limit_of, reading, writing};
 ghost use Rattle.bitvec.specs.Ranges.{ChangesOnly};
 ghost use Rattle.bitstream.specs.Codes.{AreCodes, AreFirstCodes, IsAhead, IsCode, LacksCode, LacksCodes, code_len, code_zeros, codes_len};
 
@@ -32,7 +32,7 @@ pub fn put_code(writer: &mut Writer<'_>, number: u64) -> Result<(), CursorError>
     ensures code { OnOk result (IsCode (writing writer.new).bits (writing writer.old).position number) }
     ensures outside { OnOk result (ChangesOnly (writing writer.old).position (writing writer.new).position (writing writer.old).bits (writing writer.new).bits) }
     ensures position { (writing writer.new).position ≡ (writing writer.old).position + (if is_ok result then code_len number else 0) }
-    ensures refused { OnErr result (length (writing writer.old).bits < (writing writer.old).position + code_len number) }
+    ensures refused { OnErr result (limit_of writer.old < (writing writer.old).position + code_len number) }
     ensures elements { KeepsElements writer.old writer.new result }
 {
     let zeros = zeros_before(number);
@@ -51,10 +51,11 @@ pub fn put_codes(writer: &mut Writer<'_>, numbers: &[u64]) -> Result<(), CursorE
     requires { All (λ n. 0 < n) numbers.now }
     ensures codes { OnOk result (AreCodes (writing writer.new).bits (writing writer.old).position (writing writer.new).position numbers.now) }
     ensures position { OnOk result ((writing writer.new).position ≡ (writing writer.old).position + codes_len numbers.now) }
-    ensures refused { OnErr result (length (writing writer.old).bits < (writing writer.old).position + codes_len numbers.now) }
+    ensures refused { OnErr result (limit_of writer.old < (writing writer.old).position + codes_len numbers.now) }
     ensures first { OnErr result (AreFirstCodes (writing writer.new).bits (writing writer.old).position (writing writer.new).position numbers.now) }
     ensures outside { ChangesOnly (writing writer.old).position (writing writer.new).position (writing writer.old).bits (writing writer.new).bits }
     ensures name { lender_of writer.new ≡ lender_of writer.old }
+    ensures limit { limit_of writer.new ≡ limit_of writer.old }
 {
     for number in numbers {
         put_code(writer, *number)?;

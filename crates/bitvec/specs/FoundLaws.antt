@@ -1,14 +1,18 @@
 -- What was found in a range of an array, told of the array: the place, its bit, that none before it, or behind it, has the bit, and the
 -- numbers there; and whether all bits of a range are 1, or some.
-use Rattle.std.specs.Prelude.{◌≡◌, ◌≢◌, ℕ, ◌+◌, ◌-◌, ◌<◌, ◌≤◌, Bool, true, false, not, if◌then◌else◌, List, Option, None, Some, length, refl, slice_index_or}
+use Rattle.std.specs.Prelude.{◌≡◌, ◌≢◌, ℕ, ◌+◌, ◌-◌, ◌<◌, ◌≤◌, Bool, true, false, not, if◌then◌else◌, List, Option, None, Some, length, refl, slice_index_or, slice_range}
 use Rattle.std.specs.List.{list_all, list_any}
 use Rattle.std.specs.Option.{is_some}
 use Rattle.std.proofs.Common.{arith, sym, ◌∙◌, ap}
 use Rattle.bitvec_base.specs.Lists.{first_place, last_place}
 use Rattle.bitvec_base.specs.PlacesLaws.{first_place-absent, first_place-before, first_place-below, first_place-bit, last_place-absent, last_place-after, last_place-below, last_place-bit, list_all-first_place, list_any-first_place}
-use Rattle.bitvec_in_place.specs.RangeBitsLaws.{get-bits_in, length-bits_in}
+use Rattle.bitvec_in_place.specs.RangeBitsLaws.{bits_in-range, get-bits_in, length-bits_in}
 use Rattle.bitvec_in_place.specs.Ranges.{bits_in, number_in}
 use Rattle.bitvec.specs.NumberSidesLaws.{number-one, number-zeros}
+
+-- A `slice_range`, which a part of a view has, is the bits of the range.
+pub range-bits_in : (list : List Bool) (from to : ℕ) → slice_range list from to ≡ bits_in list from to
+range-bits_in list from to = sym (bits_in-range list from to)
 
 -- a bit of the list, by the range
 in-range : (list : List Bool) (from to k : ℕ) → from ≤ k → k < to → slice_index_or (bits_in list from to) (k - from) false ≡ slice_index_or list k false

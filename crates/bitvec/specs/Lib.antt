@@ -1,9 +1,14 @@
 pub mod Arrays
+pub mod BytesLaws
 pub mod ClosureLaws
 pub mod ComposedLaws
+pub mod CountLaws
 pub mod Domains
+pub mod FitLaws
+pub mod Fits
 pub mod FlagLaws
 pub mod FoundLaws
+pub mod HeldLaws
 pub mod Laws
 pub mod ListNumbersLaws
 pub mod MatchLaws
@@ -12,10 +17,13 @@ pub mod NumberSidesLaws
 pub mod Operators
 pub mod OwnViews
 pub mod OwnViewsLaws
+pub mod PartsLaws
 pub mod PlacedLaws
 pub mod RowsLaws
 pub mod SeamlessLaws
+pub mod SetLaws
 pub mod Types
+pub mod WindowsLaws
 pub use Rattle.bitvec_base.specs.BitsFixMemory
 pub use Rattle.bitvec_base.specs.Counts
 pub use Rattle.bitvec_base.specs.FilledLaws
@@ -94,6 +102,7 @@ pub use Rattle.bitvec_cells.specs.Access
 pub use Rattle.bitvec_run.specs.Fold
 pub use Rattle.bitvec_commands.specs.Groups
 pub use Rattle.bitvec_run.specs.Runs
+pub use Rattle.bitvec_run.specs.RunsLaws
 pub use Rattle.bitvec_run.specs.WordRunsLaws
 pub use Rattle.bitvec_engine.specs.WordSteps
 pub use Rattle.bitvec_run_halves.specs.Sides

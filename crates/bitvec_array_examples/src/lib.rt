@@ -29,6 +29,8 @@ mod retained;
 #[cfg(test)]
 mod run_halves;
 #[cfg(test)]
+mod single_edits;
+#[cfg(test)]
 mod slots;
 #[cfg(test)]
 mod word_runs;

@@ -20,10 +20,7 @@ const SHORT_BITS: usize = 9 * 128;
 /// narrower elements are faster where the compiler knows by how much it shifts.
 #[inline(always)]
 pub(crate) fn are_short_shifted<T: BitStore>(window: Window, right_window: Window) -> bool
-    ensures short { IsTrue result ↔ (32 ≤ T.BITS) × ((window.start % T.BITS == right_window.start % T.BITS) ≡ false) × (window.len ≡ right_window.len) × (0 < window.len) × (window.len < 9 * 128) }
-    ensures some { result ≡ true → 0 < window.len }
-    ensures lengths { result ≡ true → window.len ≡ right_window.len }
-    ensures phases { result ≡ true → (window.start % T.BITS == right_window.start % T.BITS) ≡ false }
+    ensures { IsTrue result ↔ (32 ≤ T.BITS) × ((window.start % T.BITS == right_window.start % T.BITS) ≡ false) × (window.len ≡ right_window.len) × (0 < window.len) × (window.len < 9 * 128) }
 {
     T::BITS >= u32::BITS
         && window.phase::<T>() != right_window.phase::<T>()

@@ -1,7 +1,7 @@
 //! The header of a packet: eight fields that are written as one row, and read one by one.
-ghost use Rattle.std.specs.Prelude.{◌≡◌, ◌*◌, ◌<◌, ◌≤◌, IfOk, OnErr, OnOk, length};
+ghost use Rattle.std.specs.Prelude.{◌≡◌, ◌*◌, ◌<◌, ◌≤◌, IfOk, OnErr, OnOk, length, slice_index, true};
 ghost use Rattle.bitvec.specs.Arrays.{msb0_bits};
-ghost use Rattle.bitvec.specs.Ranges.{ChangesOnly};
+ghost use Rattle.bitvec.specs.Ranges.{ChangesOnly, number_in};
 ghost use Rattle.bitvec.specs.Window.{max_bits};
 ghost use Rattle.bitvec_code_examples.specs.Headers.{FitsHeader, HasHeader};
 
@@ -64,6 +64,18 @@ pub fn decode(bytes: &[u8]) -> Result<Header, CursorError>
     })
 }
 
+/// The two halves of a byte and the number of the two bytes behind it, read as one row.
+#[tactic(auto, using(bitvec::specs::Laws::cursors))]
+pub fn halves_and_number(bytes: &[u8; 3]) -> Result<[u64; 3], CursorError>
+    ensures { IfOk result (λ numbers. (slice_index numbers 0 ≡ number_in true true 8 (msb0_bits 8 bytes.now) 0 4)
+        × (slice_index numbers 1 ≡ number_in true true 8 (msb0_bits 8 bytes.now) 4 8)
+        × (slice_index numbers 2 ≡ number_in true true 8 (msb0_bits 8 bytes.now) 8 24)) }
+{
+    let mut row = [(4, 0), (4, 0), (16, 0)];
+    BitReader::<u8, Msb0>::new(bytes).take_row(&mut row)?;
+    Ok([row[0].1, row[1].1, row[2].1])
+}
+
 /// Writes the fields and reads one of them where it stands.
 #[tactic(auto, using(bitvec::specs::Laws::cursors))]
 pub fn id_of(bytes: &mut [u8; 8], header: Header) -> Result<u16, CursorError>
@@ -92,4 +104,26 @@ fn headers_come_back(rt: HostRuntime) {
     assert!(rt; bytes == [0x45, 0xBA, 0x12, 0x34, 0xAB, 0xCD, 0x41, 0x23]);
     assert!(rt; decode(&bytes) == Ok(header));
     assert!(rt; decode(&bytes[..7]) == Err(CursorError::Ended));
+    assert!(rt; halves_and_number(&[0x45, 0xBA, 0x12]) == Ok([4, 5, 0xBA12]));
+}
+
+/// A row put into the bits 4 up to 20, and a bit behind it.
+fn put_within(bytes: &mut [u8; 3]) -> [Result<(), CursorError>; 2] {
+    let mut writer = BitWriter::<u8, Msb0>::within(bytes, 4..20);
+    [writer.put_row(&[(4, 5), (12, 0x123)]), writer.put_bit(true)]
+}
+
+/// A row of too many bits, and what stands in it afterwards.
+fn take_too_many(bytes: &[u8; 3]) -> (Result<(), CursorError>, [(u32, u64); 2]) {
+    let mut row = [(20, 1), (5, 2)];
+    let taken = BitReader::<u8, Msb0>::new(bytes).take_row(&mut row);
+    (taken, row)
+}
+
+#[test]
+fn rows_have_limits(rt: HostRuntime) {
+    let mut bytes = [0xFFu8; 3];
+    assert!(rt; put_within(&mut bytes) == [Ok(()), Err(CursorError::Full)]);
+    assert!(rt; bytes == [0xF5, 0x12, 0x3F]);
+    assert!(rt; take_too_many(&bytes) == (Err(CursorError::Ended), [(20, 1), (5, 2)]));
 }

@@ -8,16 +8,17 @@ ghost use Rattle.bitvec.specs.Window.{max_bits};
 use bitvec::in_place;
 use bitvec::prelude::*;
 
-/// Two numbers side by side are one number, here where the first bit is the highest.
+/// A packet's header: behind three zeros its kind in 4 bits and its size in 9. Two numbers side by side are one number, here where
+/// the first bit is the highest.
 #[tactic(auto, using(bitvec::specs::Laws::summed))]
-pub fn high_then_low(high: u8, low: u16) -> [u8; 4]
-    requires { high < 16 }
-    ensures { number_in true true 8 (msb0_bits 8 result) 3 16 ≡ high * 512 + low % 512 }
+pub fn header_of(kind: u8, size: u16) -> [u8; 4]
+    requires { kind < 16 }
+    ensures { number_in true true 8 (msb0_bits 8 result) 3 16 ≡ kind * 512 + size % 512 }
 {
-    let mut bytes = [0u8; 4];
-    in_place::store_be::<u8, Msb0, u8>(&mut bytes, 3..7, high);
-    in_place::store_be::<u8, Msb0, u16>(&mut bytes, 7..16, low);
-    bytes
+    let mut header = [0u8; 4];
+    in_place::store_be::<u8, Msb0, u8>(&mut header, 3..7, kind);
+    in_place::store_be::<u8, Msb0, u16>(&mut header, 7..16, size);
+    header
 }
 
 /// And where it is the lowest.
@@ -80,7 +81,8 @@ pub fn beside_answers<F: FnMut(usize) -> bool>(number: u16, f: F) -> [u8; 8]
 
 #[test]
 fn ranges_have_their_numbers(rt: HostRuntime) {
-    assert!(rt; high_then_low(0b1010, 0b1_0000_0011) == [0b0001_0101, 0b0000_0011, 0, 0]);
+    assert!(rt; header_of(0b1010, 0b1_0000_0011) == [0b0001_0101, 0b0000_0011, 0, 0]);
+    assert!(rt; header_of(5, 300) == [0x0B, 0x2C, 0, 0]);
     assert!(rt; low_then_high(0b1010, 0b1_0000_0011) == [0b1101_0000, 0b1000_0001, 0, 0]);
     assert!(rt; in_two_parts(&[0x12, 0x34, 0x56], 4, 9, 20) == (0x4, 0x345));
     assert!(rt; with_its_bits(&[0xFF, 0x01, 0, 0]) == 0x1F01);

@@ -58,6 +58,29 @@ pub fn take_highest_first<T: BitStore>(view: BitSlice<'_, T, Msb0>, from: usize,
     view.into_part(from..to).load_be::<u32>()
 }
 
+/// Stores 0, 4, 8 and so on in the chunks of five bits, and gives what each is read as then.
+fn number_chunks(bytes: &mut [u8; 5]) -> [u8; 8] {
+    let mut view = BitSliceMut::<u8, Msb0>::from_slice_mut(bytes);
+    let mut chunks = view.chunks_mut(5);
+    let mut loaded = [0; 8];
+    for number in 0..8u8 {
+        if let Some(mut chunk) = chunks.next_mut() {
+            if !chunk.is_empty() && chunk.len() <= 8 {
+                chunk.store_be::<u8>(4 * number);
+                loaded[number as usize] = chunk.load_be::<u8>();
+            }
+        }
+    }
+    loaded
+}
+
+#[test]
+fn chunks_hold_numbers(rt: HostRuntime) {
+    let mut bytes = [0u8; 5];
+    assert!(rt; number_chunks(&mut bytes) == [0, 4, 8, 12, 16, 20, 24, 28]);
+    assert!(rt; bytes == [0x01, 0x10, 0xC8, 0x53, 0x1C]);
+}
+
 #[test]
 fn views_hold_numbers(rt: HostRuntime) {
     let mut bytes = [0u8; 4];

@@ -1,4 +1,3 @@
-pub mod CostLemmas
 pub mod MetActs
 pub mod RoomLemmas
 pub mod StretchActs

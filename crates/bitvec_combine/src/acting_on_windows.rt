@@ -12,10 +12,10 @@ use crate::acting::{Act, spans_in};
 use crate::acting_equal::Equal;
 use crate::acting_shifted::Shifted;
 use crate::phases::Phases;
-use bitvec_base::{BitOrder, Part, Window, elements_of};
+use bitvec_base::{BitOrder, Part, Window};
 use bitvec_cells::CellsRead;
 use bitvec_store::BitStore;
-use bitvec_words::{Stretch, WordOrder, merged};
+use bitvec_words::{Stretch, WordOrder, merged, whole_bits};
 
 /// Acts on a window, given one with its first bit at any index of an element. Condition: each memory has at most
 /// `MAX_BITS` bits, each window lies in its memory, and the right one isn't empty. It ends where the left one does, or
@@ -102,14 +102,6 @@ pub(crate) fn act_from_edge<
         to: to.len - passed,
     };
     act_on_part::<O, C, D, A, P>(left, tail, right, from.after(passed), last, act);
-}
-
-/// How many of that many bits make whole elements of type `T`.
-#[inline(always)]
-fn whole_bits<T: BitStore>(bits: usize) -> usize
-    ensures { result ≡ bits / T.BITS * T.BITS }
-{
-    elements_of::<T>(bits) * T::BITS as usize
 }
 
 /// Acts on whole elements, and asks after each span of them whether the act stops.

@@ -16,10 +16,12 @@ fn load_middle<O: FieldOrder>(bytes: &[u8; 2], le: bool) -> u8 {
     }
 }
 
-/// What a view of four bits is read as from either end, and one of two bits with and without a sign.
-fn load_few(bytes: &[u8; 1]) -> (u8, u8, u8, i8) {
+/// What a view of four bits is read as from either end, and one of two bits from an index on with and without a sign.
+fn load_few(bytes: &[u8; 1], from: usize) -> (u8, u8, u8, i8)
+    requires { from ≤ 6 }
+{
     let view = BitSlice::<u8, Lsb0>::from_slice(bytes);
-    let (four, two) = (view.into_part(2..6), view.into_part(3..5));
+    let (four, two) = (view.into_part(2..6), view.into_part(from..from + 2));
     (
         four.load_le::<u8>(),
         four.load_be::<u8>(),
@@ -38,7 +40,8 @@ fn a_number_is_read_from_either_end(rt: HostRuntime) {
         load_middle::<Msb0>(&elements, false),
     ];
     assert!(rt; found == [0xEB, 0xBE, 0x64, 0x46]);
-    assert!(rt; load_few(&[0xB4]) == (0xD, 0xD, 2, -2));
+    assert!(rt; load_few(&[0xB4], 3) == (0xD, 0xD, 2, -2));
+    assert!(rt; load_few(&[0x06], 1) == (1, 1, 3, -1));
 }
 
 /// Stores a negative number in the bits 6 up to 10, `le` or else `be`, and gives what is loaded then.

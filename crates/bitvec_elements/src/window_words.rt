@@ -12,7 +12,7 @@ use bitvec_cells::{CellsRead, Shared};
 use bitvec_engine::Direction;
 use bitvec_few::load_parts;
 use bitvec_store::BitStore;
-use bitvec_words::{WORD_BITS, WordOrder, gathered, joined, load_elements, moved, reversed};
+use bitvec_words::{WORD_BITS, WordOrder, gathered, load_across, moved, reversed};
 
 /// The 64 bits of a window from an index on as a word, with zeros past the window's end. Conditions:
 /// the window lies in a memory of at most `MAX_BITS` bits, the index is at most 64 behind its end,
@@ -79,8 +79,7 @@ pub(crate) fn reordered<V: WordOrder, W: WordOrder>(word: u64) -> u64
     }
 }
 
-/// The 64 bits from the index `skip` of an element on: those of one word, and what is left of them with the next
-/// element. Conditions: elements are not wider than a word, and the bits lie in a memory of at most `MAX_BITS` bits.
+/// [`load_across`] of a slice.
 #[inline(always)]
 pub(crate) fn word_behind<W: WordOrder, T: BitStore>(
     elements: &[T],
@@ -93,14 +92,7 @@ pub(crate) fn word_behind<W: WordOrder, T: BitStore>(
     ensures { element_bits 64 W.at result
         ≡ list_in T.BITS W.at (map T.value elements.now) (elements_window_from T.BITS first skip (64 / T.BITS)) }
 {
-    let mut cells = Shared::new(elements);
-    let word = load_elements::<W, Shared<T>>(&mut cells, first);
-    if skip == 0 {
-        return word;
-    }
-    let next = elements[first + elements_of::<T>(WORD_BITS)];
-    let behind = moved::<W, T, u64>(next, 0, T::BITS as usize, 0);
-    joined::<W, u64>(word, behind, skip)
+    load_across::<W, Shared<T>>(&mut Shared::new(elements), first, skip)
 }
 
 /// [`window_word`] of any order: each element is loaded once, and its bits are gathered one by one.

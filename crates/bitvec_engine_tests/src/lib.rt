@@ -7,6 +7,8 @@ mod accessors;
 #[cfg(test)]
 mod block_costs;
 #[cfg(test)]
+mod blocks;
+#[cfg(test)]
 mod elements;
 #[cfg(test)]
 mod orders;

@@ -1,5 +1,6 @@
 //! Walks over bits with the adapters of std.
-ghost use Rattle.std.specs.Prelude.{◌≡◌, ◌+◌, ◌-◌, ◌%◌, ◌<◌, ◌==◌, IfOk, count_by, min, reverse};
+ghost use Rattle.std.specs.Prelude.{◌≡◌, ◌+◌, ◌-◌, ◌%◌, ◌<◌, ◌==◌, ◌≤◌, IfOk, IfSome, count_by, false, min, reverse, slice_range};
+ghost use Rattle.std.specs.List.{list_any};
 ghost use Rattle.bitvec.specs.Views.{seen};
 
 use bitvec::index::Window;
@@ -36,6 +37,19 @@ pub fn window_behind<T: BitStore, O: BitOrder>(bits: BitSlice<'_, T, O>, skipped
 /// At how many places a bit differs from the next.
 pub fn mixed_pairs<T: BitStore, O: SliceOrder>(bits: BitSlice<'_, T, O>) -> usize {
     bits.windows(2).filter(|pair| pair.some()).count()
+}
+
+/// Where the first so many bits in a row begin that are all 0. Condition: they are some.
+#[tactic(auto, using(bitvec::specs::Laws::walked))]
+pub fn first_window<T: BitStore, O: SliceOrder>(
+    bits: BitSlice<'_, T, O>,
+    size: usize,
+) -> Option<usize>
+    requires { 0 < size }
+    ensures inside { IfSome result (λ start. start + size ≤ (seen bits.entry).window.len) }
+    ensures zeros { IfSome result (λ start. list_any (λ bit. bit) (slice_range (seen bits.entry).bits start (start + size)) ≡ false) }
+{
+    bits.windows(size).position(|piece| piece.not_any())
 }
 
 /// How many bits are 1, added up over chunks.
@@ -79,6 +93,7 @@ fn callers_walk_over_bits(rt: HostRuntime) {
         mixed_pairs(view),
     ];
     assert!(rt; (ones, parity(view)) == ([4, 4, 3], false));
+    assert!(rt; first_window(view, 3) == Some(0) && first_window(view, 4) == None);
     let behind = window_behind(view.into_part(2..8), 3);
     assert!(rt; [behind.start, behind.len] == [6, 2]);
     assert!(rt;

@@ -20,7 +20,7 @@ use Rattle.bitvec_base.specs.WritesLaws.{Writes-is, Writes-join}
 use Rattle.bitvec_words.specs.AcrossLaws.{Writes-behind, first-values, length-first, word-tail}
 use Rattle.bitvec_words.specs.WordLaws.{padded-all, take-all, word_whole}
 use Rattle.bitvec_store.specs.Width.{IsWidth}
-use Rattle.bitvec_store.specs.WidthLaws.{at_each_width, width_some}
+use Rattle.bitvec_store.specs.WidthLaws.{width_some}
 use Rattle.bitvec_cells.specs.Cost.{fill_loads, touched_count}
 use Rattle.bitvec_cells.specs.ElementLaws.{element-count}
 use Rattle.bitvec_cells.specs.WalkLaws.{touched-none}
@@ -29,7 +29,7 @@ use Rattle.bitvec_words.specs.ShortWindow.{padded}
 use Rattle.bitvec_words.specs.FieldLaws.{element_of}
 use Rattle.bitvec_words.specs.FillingLaws.{fill_loads-some}
 use Rattle.bitvec_words.specs.MovedLaws.{element-joined, take-word, written-padded}
-use Rattle.bitvec_words.specs.TouchedLaws.{touched-first, touched-from_full, touched-one, touched-two}
+use Rattle.bitvec_words.specs.TouchedLaws.{touched-one, touched-two, touched-word_across}
 
 -- values moved to the start
 padded-moved : (b n : ℕ) (list : List Bool) → n ≤ length list → n ≤ b → write_at (replicate b false) 0 (slice_range list 0 (0 + n)) ≡ padded b (take n list)
@@ -63,12 +63,7 @@ few-touched b s (suc n) some short =
 
 module _ (b : ℕ) (window : Window) (width : IsWidth b) (narrow : b < 64) (size : window.len ≡ 64) (inside : window.start % b ≢ 0) where
   pub touched-across : touched_count b window.start window.len ≡ 64 / b + 1
-  touched-across =
-      let some = width_some b width in
-      let full = at_each_width (λ n. n < 64 → 64 % n ≡ 0) (λ _. refl) (λ _. refl) (λ _. refl) (λ wide. absurd (omega arith)) (λ wide. absurd (omega arith)) b width narrow in
-      let rest = touched-from_full b window.start 64 some (omega arith) full in
-      let one = touched-first b window.start 64 (omega arith) in
-      rw size (omega arith)
+  touched-across = rw size (touched-word_across b window.start width (omega arith) (omega arith))
 
   -- the elements of a word get what the first has before the window, and the word's first bits; the next gets the others
   pub stored-across : (at : ℕ → ℕ → ℕ) {old mid new : List ℕ} {first skip head : ℕ} (kept moved behind word : ℕ) → first ≡ window.start / b → skip ≡ window.start % b → HasWindow b old window → head ≡ slice_index old first

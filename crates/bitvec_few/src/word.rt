@@ -9,9 +9,7 @@ use crate::element::{load_short, store_short};
 use bitvec_base::{Part, Window, elements_of};
 use bitvec_cells::{Cells, CellsRead};
 use bitvec_store::BitStore;
-use bitvec_words::{
-    WORD_BITS, WordOrder, joined, load_elements, moved, store_elements, store_part,
-};
+use bitvec_words::{WORD_BITS, WordOrder, load_across, moved, store_elements, store_part};
 
 /// Whether that many bits go as a word: at most 64.
 #[inline(always)]
@@ -39,7 +37,11 @@ pub fn load_parts<O: WordOrder, C: CellsRead>(cells: &mut C, window: Window) -> 
     if window.len < WORD_BITS {
         return load_each::<O, C>(cells, window);
     }
-    load_across::<O, C>(cells, window)
+    load_across::<O, C>(
+        cells,
+        window.element::<C::Elem>(),
+        window.phase::<C::Elem>(),
+    )
 }
 
 /// [`load_parts`] part by part of elements.
@@ -58,27 +60,6 @@ fn load_each<O: WordOrder, C: CellsRead>(cells: &mut C, window: Window) -> u64
         rest = rest.after(part.len());
     }
     word
-}
-
-/// [`load_parts`] of 64 bits of elements narrower than a word: those of one word, and what is left of them with the next
-/// element where they begin inside one.
-#[inline(always)]
-fn load_across<O: WordOrder, C: CellsRead>(cells: &mut C, window: Window) -> u64
-    requires window { HasWindow C.Elem.BITS (C.numbers cells.old) window }
-    requires size { window.len ≡ 64 }
-    requires narrow { C.Elem.BITS < 64 }
-    ensures value { element_bits 64 O.at result ≡ list_in C.Elem.BITS O.at (C.numbers cells.old) window }
-    ensures reads { OnlyReads C.CellsRead cells.old cells.new (touched_count C.Elem.BITS window.start window.len) }
-{
-    let first = window.element::<C::Elem>();
-    let skip = window.phase::<C::Elem>();
-    let word = load_elements::<O, C>(cells, first);
-    if skip == 0 {
-        return word;
-    }
-    let next = cells.load(first + elements_of::<C::Elem>(WORD_BITS));
-    let behind = moved::<O, C::Elem, u64>(next, 0, C::Elem::BITS as usize, 0);
-    joined::<O, u64>(word, behind, skip)
 }
 
 /// A window gets the first bits of a word, as many as it has; all other bits of the memory stay. Condition, and where it

@@ -1,4 +1,4 @@
 pub mod Cursors
 pub mod Refilled
-pub mod Rows
+pub mod RowLemmas
 pub mod Windows

@@ -1,5 +1,5 @@
 -- What contracts see of a reader and of a writer of bits.
-use Rattle.std.specs.Prelude.{◌≡◌, ◌↔◌, ℕ, Bool, List, Result, IfErr, IsOk, OnErr, length, map}
+use Rattle.std.specs.Prelude.{◌≡◌, ◌↔◌, ◌≤◌, ℕ, Bool, List, Result, IfErr, IsOk, OnErr, drop, length, map}
 use Rattle.std.specs.Borrow.{GName}
 use Rattle.bitvec_store.specs.declared.store.BitStore.{Ghosts as Store}
 use Rattle.bitvec_base.specs.declared.order.BitOrder.{Ghosts as Order}
@@ -18,6 +18,10 @@ pub record Answers {V : Type 0} (fits : Type 0) (why : CursorError) (result : Re
 pub record Cursor : Type 0 where
   pub bits : List Bool
   pub position : ℕ
+
+-- `left_of cursor` is the bits that a cursor has not passed.
+abbrev pub left_of : Cursor → List Bool
+left_of cursor = drop cursor.position cursor.bits
 
 module _ {T O : Type 0} {t : Store T} {o : Order O} where
   -- `reading reader` has the bits that a `BitReader` reads, and how many of them it has passed.
@@ -40,13 +44,20 @@ module _ {T O : Type 0} {t : Store T} {o : Order O} where
   abbrev pub lender_of : BitWriter T O t o → GName
   lender_of writer = writer.elements.ghost_name
 
+  -- `limit_of writer` is the index, in bits, at which a `BitWriter` ends: it puts no bit there or behind.
+  abbrev pub limit_of : BitWriter T O t o → ℕ
+  limit_of writer = writer.end
+
   -- `KeepsBits old new` says that a `BitReader` reads the bits that it read before, from where they begin.
   pub record KeepsBits (old new : BitReader T O t o) : Type 0 where
     pub bits : (reading new).bits ≡ (reading old).bits
     pub start : start_of new ≡ start_of old
 
-  -- `KeepsElements old new result` says what a `BitWriter` keeps: as many elements, by the same borrow, and all of them where it refused.
+  -- `KeepsElements old new result` says what a `BitWriter` keeps: as many elements, by the same borrow, the same limit, which
+  -- lies in their bits, and all elements where it refused.
   pub record KeepsElements {V : Type 0} (old new : BitWriter T O t o) (result : Result V CursorError) : Type 0 where
     pub kept : OnErr result (elements_of new ≡ elements_of old)
     pub len : length (elements_of new) ≡ length (elements_of old)
     pub name : lender_of new ≡ lender_of old
+    pub limit : limit_of new ≡ limit_of old
+    pub fits : limit_of old ≤ length (writing old).bits

@@ -5,6 +5,7 @@ ghost use Rattle.bitvec_segments.specs.Segments.{segment_number};
 ghost use Rattle.bitvec_slice.specs.Views.{seen};
 
 use crate::cursor_error::CursorError;
+use crate::rows::has_room;
 use bitvec_base::BitOrder;
 use bitvec_field::{BitField, Integral};
 use bitvec_numbers::FieldOrder;
@@ -107,6 +108,7 @@ impl<'a, T: BitStore, O: BitOrder> BitReader<'a, T, O> {
         ensures answer { Answers ((reading self.old).position + width ≤ length (reading self.old).bits) Ended result }
         ensures value { IfOk result (λ view. (seen view).bits ≡ bits_in (reading self.old).bits (reading self.old).position ((reading self.old).position + width)) }
         ensures long { IfOk result (λ view. (seen view).window.len ≡ width) }
+        ensures start { IfOk result (λ view. (seen view).window.start ≡ (start_of self.old + (reading self.old).position) % T.BITS) }
         ensures keeps { KeepsBits self.old self.new }
         ensures position { (reading self.new).position ≡ (reading self.old).position + (if is_ok result then width else 0) }
     {
@@ -118,9 +120,11 @@ impl<'a, T: BitStore, O: BitOrder> BitReader<'a, T, O> {
 
 #[tactic(auto, using(crate::proofs::Cursors::readers))]
 impl<'a, T: BitStore, O: FieldOrder> BitReader<'a, T, O> {
-    ghost use Rattle.std.specs.Prelude.{◌≡◌, ◌+◌, ◌<◌, IfOk, if◌then◌else◌, is_ok};
+    ghost use Rattle.std.specs.Prelude.{◌≡◌, ◌+◌, ◌<◌, IfOk, IsTrue, OnErr, OnOk, if◌then◌else◌, is_ok, nat_le};
+    ghost use Rattle.std.specs.List.{list_all};
     ghost use Rattle.bitvec_in_place.specs.Cursors.{Answers, KeepsBits, reading};
     ghost use Rattle.bitvec_in_place.specs.Ranges.{number_in};
+    ghost use Rattle.bitvec_in_place.specs.Rows.{ReadsRow, row_len};
     ghost use Rattle.bitvec_in_place.specs.declared.cursor_error.CursorError.TheVariants.{Ended};
     ghost use Rattle.bitvec_numbers.specs.Integers.{integer_of};
 
@@ -158,12 +162,47 @@ impl<'a, T: BitStore, O: FieldOrder> BitReader<'a, T, O> {
         let next = self.position..self.position + width as usize;
         Ok(plain_number::<T, O, I>(self.view.into_part(next)))
     }
+
+    /// Reads numbers one behind the other into a row, each told by its width as `(width, number)`. If there are too few bits
+    /// for all, it is refused with `Ended`, the row is as before, and the reader stays. Condition: each width is at most 64.
+    pub fn take_row(&mut self, row: &mut [(u32, u64)]) -> Result<(), CursorError>
+        requires { IsTrue (list_all (λ field. nat_le field.0 64) row.old) }
+        ensures answer { Answers ((reading self.old).position + row_len row.old ≤ length (reading self.old).bits) Ended result }
+        ensures row { OnOk result (ReadsRow O.HIGH T.BITS (reading self.old).bits (reading self.old).position row.old row.new) }
+        ensures kept { OnErr result (row.new ≡ row.old) }
+        ensures keeps { KeepsBits self.old self.new }
+        ensures position { (reading self.new).position ≡ (reading self.old).position + (if is_ok result then row_len row.old else 0) }
+    {
+        if !has_room(self.remaining(), &*row) {
+            return Err(CursorError::Ended);
+        }
+        for field in row.iter_mut() {
+            field.1 = self.take_next(field.0);
+        }
+        Ok(())
+    }
+
+    /// The number of the next `width` bits. Conditions: `width` is at most 64, and as many bits are left.
+    fn take_next(&mut self, width: u32) -> u64
+        requires bound { width ≤ 64 }
+        requires room { (reading self.old).position + width ≤ length (reading self.old).bits }
+        ensures number { result ≡ number_in O.HIGH O.HIGH T.BITS (reading self.old).bits (reading self.old).position ((reading self.old).position + width) }
+        ensures keeps { KeepsBits self.old self.new }
+        ensures position { (reading self.new).position ≡ (reading self.old).position + width }
+    {
+        let from = self.position;
+        self.position += width as usize;
+        if width == 0 {
+            return 0;
+        }
+        plain_number::<T, O, u64>(self.view.into_part(from..self.position))
+    }
 }
 
 /// The integer of a view's bits, the first of them lowest under an order that begins with the lowest bit, else highest.
 /// Condition: the view has from 1 to `I::BITS` bits.
 #[tactic(auto, using(crate::proofs::Cursors::plain))]
-fn plain_number<T: BitStore, O: FieldOrder, I: Integral>(view: BitSlice<'_, T, O>) -> I
+pub(crate) fn plain_number<T: BitStore, O: FieldOrder, I: Integral>(view: BitSlice<'_, T, O>) -> I
     requires some { 0 < (seen view).window.len }
     requires bound { (seen view).window.len ≤ I.BITS }
     ensures { I.value result ≡ integer_of I.SIGNED (seen view.entry).window.len (segment_number O.HIGH (seen view.entry).bits) }

@@ -61,6 +61,14 @@ fn set_left_over(view: &mut BitSliceMut<'_, u8, Lsb0>) {
     rest.fill(true);
 }
 
+/// Sets the second of two chunks, passing the first.
+fn set_second(view: &mut BitSliceMut<'_, u8, Msb0>) {
+    let mut chunks = view.chunks_exact_mut(4);
+    if let Some(mut chunk) = chunks.nth_mut(1) {
+        chunk.fill(true);
+    }
+}
+
 #[test]
 fn chunks_and_a_remainder_are_taken(rt: HostRuntime) {
     let mut first_bits = [0x00];
@@ -68,5 +76,7 @@ fn chunks_and_a_remainder_are_taken(rt: HostRuntime) {
     let mut bytes = [0x00];
     assert!(rt; set_remainder(&mut bytes) == [2, 2, 0, 3, 0]);
     set_left_over(&mut BitSliceMut::from_slice_mut(&mut bytes));
-    assert!(rt; [first_bits, bytes] == [[0x88], [0xC3]]);
+    let mut second = [0x00];
+    set_second(&mut BitSliceMut::from_slice_mut(&mut second));
+    assert!(rt; [first_bits, bytes, second] == [[0x88], [0xC3], [0x0F]]);
 }

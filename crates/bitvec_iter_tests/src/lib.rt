@@ -7,6 +7,8 @@ mod bits;
 #[cfg(test)]
 mod by_value;
 #[cfg(test)]
+mod ended;
+#[cfg(test)]
 mod halves;
 #[cfg(test)]
 mod lent_bits;

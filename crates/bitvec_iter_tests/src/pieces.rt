@@ -58,9 +58,16 @@ fn pieces_in_order_and_from_both_ends(rt: HostRuntime) {
     );
 }
 
+/// The last piece by number, and the one before it.
+fn last_two(view: BitSlice<'_, u8, Msb0>) -> [Read; 2] {
+    let mut pieces = view.chunks(3);
+    [read(pieces.nth_back(0)), read(pieces.next_back())]
+}
+
 #[test]
 fn a_clone_walks_alone(rt: HostRuntime) {
     let elements = [0x17u8];
+    assert!(rt; last_two(BitSlice::from_slice(&elements)) == [Some((2, 3)), Some((3, 5))]);
     let view = BitSlice::<u8, Msb0>::from_slice(&elements);
     let mut chunks = view.chunks(3);
     assert!(rt; read(chunks.next()) == Some((3, 0)));

@@ -253,9 +253,10 @@ Copies-parted {b} {at} {old} {mid} {next} {new} {to} {from} {t} some has long wh
 
 -- ---- what a move may load and store beside
 
-pub late-order : (b m n : ℕ) → m ≤ n → late_words b m ≤ late_words b n
+-- whole elements between edges of fewer bits each
+pub late-order : (b t m n : ℕ) → t ≤ b → m ≤ n → n < t + m + b → late_words b 0 m ≤ late_words b (2 * b) n
 unfolding late_words
-late-order b m n order = grind (arith, nat_tests)
+late-order b t m n edge order beside = grind (arith, nat_tests)
 
 -- the bounds on steps have room for it, and for two loads at each edge
 touched_bytes : (s n : ℕ) → 0 < n → touched_count 8 s n ≤ (n + 6) / 8 + 1
@@ -269,14 +270,14 @@ late-bytes : (s n : ℕ) → 640 ≤ n → touched_count 8 s n + 9 ≤ write_sto
 unfolding write_stores work_steps step_span
 late-bytes s n many = let most = touched_bytes s n (omega arith) in omega arith
 
-pub late-stored : (b s n : ℕ) → 0 < b → touched_count b s n + late_words b n ≤ write_stores b true n
+pub late-stored : (b s n : ℕ) → 0 < b → touched_count b s n + late_words b (2 * b) n ≤ write_stores b true n
 unfolding late_words
 late-stored b s n some =
     let stored = touched_stored b true s n some in
     let bytes = late-bytes s n in
     grind (arith, nat_tests)
 
-pub late-read : (b s : ℕ) {m n : ℕ} → 0 < b → n ≡ m → 64 < n → touched_count b s m + 4 + late_words b n ≤ edit_loads b true n
+pub late-read : (b s : ℕ) {m n : ℕ} → 0 < b → n ≡ m → 64 < n → touched_count b s m + 4 + late_words b (2 * b) n ≤ edit_loads b true n
 unfolding write_loads write_stores read_loads work_steps
 late-read b s {m} {n} some same many = let room = late-stored b s n some in rw (← same) (omega arith)
 

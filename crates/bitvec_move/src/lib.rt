@@ -40,15 +40,6 @@ fn bits_from<T: BitStore>(skip: usize) -> usize
     T::BITS as usize - skip
 }
 
-/// How many bits the whole elements have that so many bits make.
-#[inline(always)]
-fn whole_bits<T: BitStore>(bits: usize) -> usize
-    ensures value { result ≡ bits / T.BITS * T.BITS }
-    ensures fits { result ≤ bits }
-{
-    elements_of::<T>(bits) * T::BITS as usize
-}
-
 /// The element in which a window's last bit stands. Condition: the window isn't empty, and its end is a `usize`.
 #[inline(always)]
 fn last_element<T: BitStore>(window: Window) -> usize

@@ -8,13 +8,15 @@ ghost use Rattle.bitvec_cells.specs.Cost.{touched_count};
 ghost use Rattle.bitvec_words.specs.Elements.{elements_window, elements_window_from};
 ghost use Rattle.bitvec_words.specs.Moves.{Copies, CopiesElements, HasSkippedElements, IsToward, late_words, nth_place, waiting_place};
 
+use crate::head_of;
 use crate::moving_words::{goes_by_words, shift_words};
-use crate::{head_of, whole_bits};
 use bitvec_base::{BitOrder, Window};
 use bitvec_cells::{Cells, CellsRead};
 use bitvec_few::{load_short, store_short};
 use bitvec_store::BitStore;
-use bitvec_words::{Carried, Lanes, Stretch, Whole, WordOrder, at_known_skip, known_skip_pays};
+use bitvec_words::{
+    Carried, Lanes, Stretch, Whole, WordOrder, at_known_skip, known_skip_pays, whole_bits,
+};
 
 /// How many whole elements are moved in a turn: so many that the compiler makes vectors of them before it unrolls the turn. By
 /// its own choice a turn has two vectors, and takes up to twice as long where its jump falls badly.
@@ -33,7 +35,7 @@ pub(crate) fn move_to<O: WordOrder, C: Cells, const LATER: bool>(
     requires some { 0 < to.len }
     requires towards { IsToward LATER to.start from.start }
     ensures writes { Copies C.Elem.BITS O.at (C.numbers cells.old) (C.numbers cells.new) to (C.numbers cells.old) from }
-    ensures cost { let late = late_words C.Elem.BITS to.len in
+    ensures cost { let late = late_words C.Elem.BITS (2 * C.Elem.BITS) to.len in
         CostsAtMost C.CellsRead cells.old cells.new (touched_count C.Elem.BITS from.start from.len + 4 + late) (touched_count C.Elem.BITS to.start to.len + late) }
 {
     let (_, head) = head_of::<C::Elem>(to);
@@ -54,7 +56,7 @@ pub fn move_elements<O: WordOrder, C: Cells, const LATER: bool>(cells: &mut C, m
     requires bound { moved.skip < C.Elem.BITS }
     requires towards { IsToward LATER moved.first moved.source }
     ensures writes { CopiesElements C.Elem.BITS O.at (C.numbers cells.old) (C.numbers cells.new) (C.numbers cells.old) moved.first moved.source moved.skip moved.count }
-    ensures cost { let late = late_words C.Elem.BITS (moved.count * C.Elem.BITS) in CostsAtMost C.CellsRead cells.old cells.new (moved.count + 1 + late) (moved.count + late) }
+    ensures cost { let late = late_words C.Elem.BITS 0 (moved.count * C.Elem.BITS) in CostsAtMost C.CellsRead cells.old cells.new (moved.count + 1 + late) (moved.count + late) }
 {
     if moved.skip == 0 {
         move_whole::<O, C, LATER>(cells, moved);

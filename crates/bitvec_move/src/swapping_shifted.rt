@@ -7,12 +7,13 @@ ghost use Rattle.bitvec_cells.specs.Access.{Costs};
 ghost use Rattle.bitvec_cells.specs.Cost.{touched_count};
 ghost use Rattle.bitvec_words.specs.Moves.{HasPartSpan, HasSkippedElements, HasSkippedSpan, SwapsWindows, SwapsElements};
 
-use crate::{bits_from, head_of, last_element, whole_bits};
+use crate::{bits_from, head_of, last_element};
 use bitvec_base::{BitOrder, Part, Window};
 use bitvec_cells::{Cells, CellsRead};
 use bitvec_store::BitStore;
 use bitvec_words::{
     Stretch, WordOrder, at_known_skip, joined, known_skip_pays, merged, toward_end, toward_start,
+    whole_bits,
 };
 
 /// Exchanges two windows whose first bits have different indices in their elements. Condition: as

@@ -2,14 +2,12 @@
 use Rattle.std.proofs.Common.{◌≡◌, ℕ, zero, suc, ◌+◌, ◌-◌, ◌*◌, ◌/◌, ◌%◌, ◌<◌, ◌≤◌, ◌++◌, Bool, List, length, reverse, slice_index, slice_range, slice_set, arith, rules, ap, sym, ◌∙◌, refl}
 use Rattle.std.proofs.lemmas.List.{same_lists, places, get_or-reverse, length-reverse, reverse-append}
 use Rattle.std.proofs.lemmas.Nat.{div-add-mod', div_below, mod_below}
-use Rattle.std.proofs.Math.Nat.{mul-add-div_right, mul-le-mul_left}
+use Rattle.std.proofs.Math.Nat.{mul-le-mul_left}
 use Rattle.bitvec_base.specs.declared.window.Window.{Window}
 use Rattle.bitvec_base.specs.Memory.{HasWindow, Writes, element_bits, list_in}
 use Rattle.bitvec_base.specs.MemoryLaws.{element_fits}
 use Rattle.bitvec_base.specs.Window.{max_bits, window_range}
 use Rattle.bitvec_base.specs.WritesLaws.{HasWindow-kept, Writes-holds, Writes-is, length-list, list-join, list-range}
-use Rattle.bitvec_cells.specs.Cost.{touched_count}
-use Rattle.bitvec_cells.specs.WalkLaws.{touched-some}
 use Rattle.bitvec_words.specs.Elements.{elements_window, elements_window_from}
 use Rattle.bitvec_words.specs.FieldLaws.{Writes-element, element_of, list-whole}
 use Rattle.bitvec_words.specs.WholeLaws.{list-same}
@@ -83,17 +81,6 @@ held-amid {b} xs {n} skip {most} place some below long held len start =
       before = omega arith;
       behind = omega arith;
     }
-
--- how many elements a window touches, by the index of its first bit in the first of them
-pub touched-places : (b s n : ℕ) → 0 < b → 0 < n → (s % b + n - 1) / b + 1 ≡ touched_count b s n
-touched-places b s zero some more = absurd (omega arith)
-touched-places b s (suc n) some more =
-    let place = div-add-mod' s b in
-    let last : s / b * b + (s % b + suc n - 1) ≡ s + n = omega arith in
-    let sum = ap (λ (m : ℕ). m / b) last in
-    let parts = mul-add-div_right some (s / b) (s % b + suc n - 1) in
-    let all = touched-some b s n in
-    omega arith
 
 -- elements from the one with a window's first bit up to the one with its last bit
 pub record IsTouched (b s n first count : ℕ) : Type 0 where

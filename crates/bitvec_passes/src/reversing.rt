@@ -6,12 +6,12 @@ ghost use Rattle.bitvec_cells.specs.Access.{CostsAtMost, OnlyReads};
 ghost use Rattle.bitvec_cells.specs.Cost.{reverse_loads, reverse_stores, step_span, touched_count, work_steps};
 ghost use Rattle.bitvec_passes.specs.Ends.{HasEnds, HoldsBeside, IsAmid, IsBlock, Mirrors, ends_exchanged};
 
-use bitvec_base::{Window, elements_of};
+use bitvec_base::Window;
 use bitvec_cells::{Cells, CellsRead, Exclusive, Shared};
 use bitvec_combine::copy_equal;
 use bitvec_move::move_elements;
 use bitvec_store::BitStore;
-use bitvec_words::{Stretch, WordOrder, reversed};
+use bitvec_words::{Stretch, WordOrder, reversed, touched};
 
 /// Reverses the bits of a window; all other bits of the memory stay. Condition: the memory has at
 /// most `MAX_BITS` bits, and the window lies in it.
@@ -111,16 +111,6 @@ fn load_mirrored<O: WordOrder, C: Cells>(
         start: room - skip - window.len,
         len: window.len,
     }
-}
-
-/// How many elements of type `T` a window touches. Condition: the window isn't empty, and its end is a `usize`.
-#[inline(always)]
-fn touched<T: BitStore>(window: Window) -> usize
-    requires some { 0 < window.len }
-    requires end { window.start + window.len < 2 ^ 64 }
-    ensures { result ≡ (window.start % T.BITS + window.len - 1) / T.BITS + 1 }
-{
-    elements_of::<T>(window.phase::<T>() + window.len - 1) + 1
 }
 
 /// How many bits so many elements of type `T` have. Condition: they are a `usize`.

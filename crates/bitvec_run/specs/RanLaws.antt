@@ -16,7 +16,6 @@ use Rattle.bitvec_run.specs.FoldLaws.{after-next, costs-next, reads-next, replie
 use Rattle.bitvec_commands.specs.Follows.{Follows, FollowsBoth}
 use Rattle.bitvec_commands.specs.Rows.{CommandRow, row_list, row_reply}
 use Rattle.bitvec_run.specs.Runs.{CanRun, FailsRun, RunsBy, RunsOrFails, whole_window}
-use Rattle.bitvec_run.specs.RunsLaws.{errs-exactly}
 use Rattle.bitvec_run.specs.declared.run_error.RunError.{RunError}
 
 -- The list of a memory's whole window is all bits of the memory.
@@ -102,7 +101,6 @@ module _ {E F C D S A : Type 0} {access : Access C E} {beside : Access D F} {row
     runs = ran;
     made = can;
     fails = tt;
-    errors = errs-exactly b (access.numbers old) window (beside.numbers right_old) (length steps) (Ok replies) can tt;
     unchanged = tt;
   }
 
@@ -113,6 +111,5 @@ module _ {E F C D S A : Type 0} {access : Access C E} {beside : Access D F} {row
     runs = tt;
     made = tt;
     fails = fails;
-    errors = errs-exactly b (access.numbers old) window (beside.numbers right) (length steps) (Err why) tt fails;
     unchanged = (record { numbers = refl; borrow = refl; loads = omega arith; stores = refl }, record { numbers = refl; borrow = refl; loads = omega arith; stores = refl });
   }

@@ -27,12 +27,6 @@ FailsRun b xs window ys n error.Window = ¬ HasWindow b xs window
 FailsRun b xs window ys n error.Right = HasWindow b xs window × (¬ FitsMaxBits b ys)
 FailsRun b xs window ys n error.Memory = CanRun b xs window ys × (0 < n)
 
--- the two errors come exactly where they should, and a run of no steps that can be made is made
-pub record ErrsExactly {A : Type 0} (b : ℕ) (xs : List ℕ) (window : Window) (ys : List ℕ) (n : ℕ) (result : Result A RunError) : Type 0 where
-  pub window_error : (result ≡ Err error.Window) ↔ (¬ HasWindow b xs window)
-  pub right_error : (result ≡ Err error.Right) ↔ (HasWindow b xs window × (¬ FitsMaxBits b ys))
-  pub no_steps : CanRun b xs window ys → n ≡ 0 → IsOk result
-
 -- what steps that are rows, on a list of n bits, may cost together
 abbrev pub run_cost : {S : Type 0} → (ℕ → S → CommandRow) → ℕ → Place → List S → Cost
 run_cost row_of n place steps = cost_of (λ step. (row_of n step).cost place) steps
@@ -48,12 +42,12 @@ module _ {E F C D S : Type 0} (access : Access C E) (beside : Access D F) (row_o
 
 -- what comes of a run of steps that are rows beside a right list, which has all bits of the right memory
 module _ {E F C D S A : Type 0} (access : Access C E) (beside : Access D F) (row_of : List Bool → ℕ → S → CommandRow) where
-  -- The run was made and did what its rows say, or it failed exactly as it had to, and then changed, loaded and stored nothing.
+  -- The run was made and did what its rows say, or it failed exactly as it had to, and then changed, loaded and stored nothing. `made` and
+  -- `fails` exclude one another, so each error comes exactly where it should (`RunsOrFails-errors`).
   pub record RunsOrFails (b : ℕ) (at : ℕ → ℕ → ℕ) (words : Bool) (window : Window) (steps : List S) (old new : C) (right_old right_new : D) (result : Result (Vec Reply A) RunError) : Type 0 where
     pub runs : IfOk result (λ replies. RunsBy access beside (row_of (memory_bits b at (beside.numbers right_old))) b at words window steps old new right_old right_new (vec_items replies))
     pub made : OnOk result (CanRun b (access.numbers old) window (beside.numbers right_old))
     pub fails : IfErr result (FailsRun b (access.numbers old) window (beside.numbers right_old) (length steps))
-    pub errors : ErrsExactly b (access.numbers old) window (beside.numbers right_old) (length steps) result
     pub unchanged : OnErr result (OnlyReads access old new 0 × OnlyReads beside right_old right_new 0)
 
 -- all bits of a memory

@@ -1,8 +1,11 @@
 -- A step that isn't refused is its command on its range; when the errors of a run come.
-use Rattle.std.specs.Prelude.{◌≡◌, ℕ, ◌-◌, ◌≤◌, Bool, true, false, Option, Some, None, List, length, refl, Err, IfErr, IfNone, Ok, OnOk, Result}
+use Rattle.std.specs.Prelude.{◌≡◌, ◌↔◌, ℕ, ◌-◌, ◌≤◌, Bool, true, false, Option, Some, None, List, length, refl, Err, IfErr, IfNone, IsOk, Ok, OnOk, Result, Vec}
 use Rattle.std.proofs.Common.{arith, sym, ◌∙◌, ap, ⊎_elim}
 use Rattle.std.proofs.lemmas.Bool.{cases_Bool}
 use Rattle.bitvec_base.specs.declared.window.Window.{Window}
+use Rattle.bitvec_base.specs.Memory.{FitsMaxBits, HasWindow}
+use Rattle.bitvec_cells.specs.declared.cells.CellsRead.{Ghosts as Access}
+use Rattle.bitvec_commands.specs.declared.command.Reply.{Reply}
 use Rattle.bitvec_commands.specs.declared.command.Refusal.{Refusal}
 use Rattle.bitvec_run.specs.declared.run_error.RunError.{RunError}
 use Rattle.bitvec_run.specs.declared.run_error.RunError.TheVariants as error
@@ -11,7 +14,7 @@ use Rattle.bitvec_commands.specs.Commands.{op_row, op_refusal}
 use Rattle.bitvec_commands.specs.CommandsLaws.{fits_list, fits_right}
 use Rattle.bitvec_run.specs.Fits.{StepFits}
 use Rattle.bitvec_commands.specs.Rows.{CommandRow, on_range, outcome, range_lies, refused, unless_refused}
-use Rattle.bitvec_run.specs.Runs.{CanRun, ErrsExactly, FailsRun, step_outcome, step_row}
+use Rattle.bitvec_run.specs.Runs.{CanRun, FailsRun, RunsOrFails, step_outcome, step_row}
 
 -- What comes of a row is what its refusal, computed elsewhere, makes of it.
 pub outcome-is : (row : CommandRow) (refusal : Option Refusal) → row.refusal ≡ refusal → outcome row ≡ unless_refused refusal row
@@ -48,6 +51,12 @@ refusal-fits right n step None order bound is = record {
 }
 refusal-fits right n step (Some refusal) order bound is = tt
 
+-- The two errors come exactly where they should, and a run of no steps that can be made is made.
+pub record ErrsExactly {A : Type 0} (b : ℕ) (xs : List ℕ) (window : Window) (ys : List ℕ) (n : ℕ) (result : Result A RunError) : Type 0 where
+  pub window_error : (result ≡ Err error.Window) ↔ (¬ HasWindow b xs window)
+  pub right_error : (result ≡ Err error.Right) ↔ (HasWindow b xs window × (¬ FitsMaxBits b ys))
+  pub no_steps : CanRun b xs window ys → n ≡ 0 → IsOk result
+
 -- where a run is made only if it can be, and else says why it isn't, each error comes exactly where it should
 module _ {A : Type 0} (b : ℕ) (xs : List ℕ) (window : Window) (ys : List ℕ) (n : ℕ) where
   -- A run that fails only as it should, and succeeds only where it can be made, gives its errors exactly where they should come.
@@ -72,3 +81,11 @@ module _ {A : Type 0} (b : ℕ) (xs : List ℕ) (window : Window) (ys : List ℕ
     right_error = (λ is. cc, λ wrong. absurd (wrong.1 fails.0.right_fits));
     no_steps = λ can none. absurd (omega (arith, fails.1, none));
   }
+
+-- what comes of a run of steps that are rows beside a right list
+module _ {E F C D S A : Type 0} {access : Access C E} {beside : Access D F} {row_of : List Bool → ℕ → S → CommandRow} {b : ℕ} {at : ℕ → ℕ → ℕ} {words : Bool} {window : Window} {steps : List S} where
+  -- The errors of `run` and of `run_fields` come exactly where they should.
+  pub RunsOrFails-errors : {old new : C} {right_old right_new : D} {result : Result (Vec Reply A) RunError} → RunsOrFails access beside row_of b at words window steps old new right_old right_new result
+      → ErrsExactly b (access.numbers old) window (beside.numbers right_old) (length steps) result
+  RunsOrFails-errors {old} {new} {right_old} {right_new} {result} did =
+      errs-exactly b (access.numbers old) window (beside.numbers right_old) (length steps) result did.made did.fails

@@ -16,6 +16,7 @@ use Rattle.bitvec_words.specs.Elements.{elements_window}
 use Rattle.bitvec_words.specs.ShortWindow.{lowest_bit}
 use Rattle.bitvec_words.specs.FieldLaws.{element_of, list-element}
 use Rattle.bitvec_words.specs.OrderEnd.{RunsFrom}
+use Rattle.bitvec_words.specs.TouchedLaws.{touched-last}
 use Rattle.bitvec_words.specs.WholeLaws.{list-empty}
 use Rattle.bitvec_words.specs.WordLaws.{word_whole}
 use Rattle.bitvec_store.specs.Width.{IsWidth}
@@ -114,15 +115,6 @@ touched-elements b s n count more some last inside =
     let split : s + n - 1 ≡ (s / b + (count - 1)) * b + r = omega arith in
     let quotient : (s + n - 1) / b ≡ s / b + (count - 1) = ap (λ (m : ℕ). m / b) split ∙ div-mul-add (s / b + (count - 1)) b r below in
     omega arith
-
-pub touched-last : (b s n : ℕ) → 0 < b → 0 < n → touched_count b s n ≡ (s % b + n - 1) / b + 1
-touched-last b s n some more =
-    let last : ℕ = s % b + n - 1 in
-    let place = div-add-mod' last b in
-    let below = mod_below last b some in
-    let back : last / b + 1 - 1 ≡ last / b = omega arith in
-    let before : (last / b + 1 - 1) * b < last + 1 = rw back (omega arith) in
-    touched-elements b s n (last / b + 1) (omega arith) (omega arith) (omega arith) (omega arith)
 
 -- so few reach no further
 pub touched-most : {b : ℕ} (s : ℕ) {n : ℕ} (count : ℕ) → 0 < b → 0 < n → touched_count b s n ≤ count → s % b + n ≤ count * b

@@ -1,10 +1,10 @@
-//! The first part of a window whose place is known, so that the machine code has no division, how many elements a
-//! window touches, and where the bits of a part stand in the window's number.
+//! The first part of a window whose place is known, so that the machine code has no division, and where the bits of a
+//! part stand in the window's number.
 ghost use Rattle.std.specs.Prelude.{◌≡◌, ◌+◌, ◌*◌, ◌/◌, ◌%◌, ◌^◌, ◌<◌, ◌≤◌, if◌then◌else◌, IsTrue, ◌↔◌};
 ghost use Rattle.bitvec_base.specs.Parts.{first_part_of};
 ghost use Rattle.bitvec_cells.specs.Cost.{touched_count};
 
-use bitvec_base::{Part, Window, elements_of};
+use bitvec_base::{Part, Window};
 use bitvec_store::BitStore;
 
 /// The first part of a window that begins at the index `from` of the element `element`. Condition: the window's end is
@@ -42,16 +42,6 @@ pub(crate) fn full_part_at<T: BitStore>(window: Window, element: usize, from: us
 {
     let to = T::BITS as usize;
     Part { element, from, to }
-}
-
-/// How many elements of type `T` a window touches. Condition: the window isn't empty, and its end is a `usize`.
-#[inline(always)]
-pub(crate) fn touched<T: BitStore>(window: Window) -> usize
-    requires some { 0 < window.len }
-    requires end { window.start + window.len < 2 ^ 64 }
-    ensures { result ≡ touched_count T.BITS window.start window.len }
-{
-    elements_of::<T>(window.phase::<T>() + window.len - 1) + 1
 }
 
 /// Whether a window is `count` whole elements of type `T`. Condition: `count` is at most 8.

@@ -4,14 +4,14 @@ ghost use Rattle.bitvec_cells.specs.Access.{OnlyReads};
 ghost use Rattle.bitvec_segments.specs.Windows.{HasNumber, loaded_in};
 ghost use Rattle.bitvec_cells.specs.Cost.{touched_count};
 
-use crate::cutting::{lower_bits, part_at, touched};
+use crate::cutting::{lower_bits, part_at};
 use crate::joining::joined_number;
 use crate::part::{number_between, part_number};
 use bitvec_base::Window;
 use bitvec_cells::CellsRead;
 use bitvec_few::load_element;
 use bitvec_store::BitStore;
-use bitvec_words::{WORD_BITS, WordOrder, load_elements};
+use bitvec_words::{WORD_BITS, WordOrder, load_elements, touched};
 
 /// The number of a window's segments. Condition: the window has at most 128 bits, and lies in a
 /// memory of at most `MAX_BITS` bits. It loads each element that the window touches once.

@@ -6,12 +6,12 @@ ghost use Rattle.bitvec_cells.specs.Access.{Costs, CostsAtMost};
 ghost use Rattle.bitvec_segments.specs.Windows.{HasNumber, StoresIn};
 ghost use Rattle.bitvec_cells.specs.Cost.{fill_loads, part_loads, touched_count};
 
-use crate::cutting::{full_part_at, is_whole, lower_bits, only_part_at, part_at, touched};
+use crate::cutting::{full_part_at, is_whole, lower_bits, only_part_at, part_at};
 use crate::part::store_part_number;
 use bitvec_base::Window;
 use bitvec_cells::Cells;
 use bitvec_store::BitStore;
-use bitvec_words::WordOrder;
+use bitvec_words::{WordOrder, touched};
 
 /// Gives a window the bits for which [`load`](crate::load) gives the number, without those of its bits for which the
 /// window is too short. Condition: as for [`load`](crate::load). It stores each element that the window touches once,

@@ -1,9 +1,10 @@
 //! Each operation once, and each status, on windows of three bytes from bit 3 on.
 use bitvec_checked::{
-    DONE, LSB0, MSB0, NONE, ORDER, all, and, any, compare, contains, copy, copy_within, count_ones,
-    count_zeros, ends_with, equal, fill, first_one, first_zero, get, invert, last_one, last_zero,
-    load_be, load_le, or, replace, reverse, rotate_left, rotate_right, set, shift_end, shift_start,
-    starts_with, store_be, store_le, swap, swap_bits, xor,
+    DONE, LSB0, MSB0, NONE, ORDER, all, and, any, compare, contains, copy, copy_step, copy_within,
+    count_and, count_ones, count_step, count_xor, count_zeros, disjoint, ends_with, equal, fill,
+    fill_step, first_one, first_zero, get, invert, last_one, last_zero, load_be, load_le, or,
+    replace, reverse, rotate_left, rotate_right, set, shift_end, shift_start, starts_with,
+    store_be, store_le, subset, swap, swap_bits, xor,
 };
 use bitvec_store::BitStore;
 
@@ -70,6 +71,81 @@ fn compare_by<T: BitStore>(elements: &[T], right: &[T]) -> ([u32; 5], bool, i32,
 fn two_windows_are_compared(rt: HostRuntime) {
     let answers = compare_by(&[0x1Cu8, 0x03, 0xEE], &[0xF8u8, 0x00, 0x0A]);
     assert!(rt; answers == ([DONE; 5], false, 1, [true, false, true]));
+}
+
+/// Counts by one call each: the statuses, how many bits are 1 in both windows, differ, and are 1 of every fifth, and whether
+/// none is 1 in both, and each that is 1 is so in the other, and in its own window.
+fn count_by<T: BitStore>(elements: &[T], right: &[T]) -> ([u32; 6], [usize; 3], [bool; 3]) {
+    let (mut both, mut differing, mut of_step) = (0, 0, 0);
+    let (mut apart, mut inside, mut own) = (true, true, false);
+    let statuses = [
+        count_and(MSB0, elements, 3, 18, right, 1, 18, &mut both),
+        count_xor(MSB0, elements, 3, 18, right, 1, 18, &mut differing),
+        count_step(MSB0, elements, 3, 18, 5, &mut of_step),
+        disjoint(MSB0, elements, 3, 18, right, 1, 18, &mut apart),
+        subset(MSB0, elements, 3, 18, right, 1, 18, &mut inside),
+        subset(MSB0, elements, 3, 18, elements, 3, 18, &mut own),
+    ];
+    (statuses, [both, differing, of_step], [apart, inside, own])
+}
+
+/// Sets every fourth bit of a window, and copies every fourth of the right one to every sixth.
+fn edit_steps<T: BitStore>(elements: &mut [T], right: &[T]) -> [u32; 2] {
+    [
+        fill_step(MSB0, elements, 3, 18, 4, true),
+        copy_step(MSB0, elements, 3, 18, right, 1, 12, 6, 4),
+    ]
+}
+
+#[test]
+fn bits_of_steps_and_of_pairs(rt: HostRuntime) {
+    let counted = count_by(&[0x1Cu8, 0x03, 0xEE], &[0xF8u8, 0x00, 0x0A]);
+    assert!(rt; counted == ([DONE; 6], [3, 7, 2], [false, false, true]));
+    let mut bytes = [0x12u8, 0x34, 0x56];
+    assert!(rt;
+        (edit_steps(&mut bytes, &[0xF0, 0x0F, 0xAA]), bytes) == ([DONE; 2], [0x13, 0x34, 0x56])
+    );
+}
+
+/// Copies so many bits from bit 7 on to bit 3 on, and says whether they are equal then.
+fn copy_shifted<T: BitStore>(
+    order: u32,
+    elements: &mut [T],
+    right: &[T],
+    len: usize,
+) -> ([u32; 2], bool) {
+    let mut same = false;
+    let statuses = [
+        copy(order, elements, 3, len, right, 7, len),
+        equal(order, elements, 3, len, right, 7, len, &mut same),
+    ];
+    (statuses, same)
+}
+
+#[test]
+fn few_wide_elements_are_shifted(rt: HostRuntime) {
+    let mut words = [0u32; 3];
+    let copied = copy_shifted(
+        LSB0,
+        &mut words,
+        &[0x89AB_CDEF, 0x0123_4567, 0x7654_3210],
+        70,
+    );
+    assert!(rt; (copied, words) == (([DONE; 2], true), [0x789A_BCD8, 0x0012_3456, 0x121]));
+    let mut words = [0u64; 2];
+    let copied = copy_shifted(
+        MSB0,
+        &mut words,
+        &[0x0123_4567_89AB_CDEF, 0xFEDC_BA98_7654_3210],
+        100,
+    );
+    assert!(rt;
+        (copied, words)
+            == (
+                ([DONE; 2], true),
+                [0x1234_5678_9ABC_DEFF, 0xEDCB_A987_6400_0000]
+            )
+    );
 }
 
 /// The statuses of questions, a bit, whether any is 1 and all are, and how many are 1 and 0.

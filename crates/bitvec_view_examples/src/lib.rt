@@ -12,6 +12,8 @@ mod edits_composed;
 #[cfg(test)]
 mod edits_within;
 #[cfg(test)]
+mod first_runs;
+#[cfg(test)]
 mod needles_known;
 #[cfg(test)]
 mod ordered;

@@ -1,5 +1,6 @@
 //! Calls that leave open what the view is afterwards: what they lend of the bits 3 up to 21 of three
 //! bytes is flipped; then every other bit is as before, and the view stands where it stood.
+ghost use Rattle.std.specs.Prelude.{◌≤◌};
 
 use bitvec_base::{Lsb0, Window};
 use bitvec_edit::BitEdits;
@@ -75,6 +76,37 @@ fn flip_in(bytes: &mut [u8; 3], kind: usize, first: usize, end: usize) -> Window
     let mut view = BitSliceMut::<u8, Lsb0>::from_slice_mut(bytes).into_part(3..21);
     flip_lent(&mut view, kind, first, end);
     view.window()
+}
+
+/// Sets the bits before an index among the bits 3 up to 13, if the two sides share no element: whether they don't.
+fn set_front(bytes: &mut [u8; 2], mid: usize) -> bool
+    requires { mid ≤ 10 }
+{
+    let mut view = BitSliceMut::<u8, Lsb0>::from_slice_mut(bytes).into_part(3..13);
+    match view.split_apart_mut(mid) {
+        Some((mut front, _rest)) => {
+            front.fill(true);
+            true
+        }
+        None => false,
+    }
+}
+
+// A cut is there at the edge of an element, and where one side has no bits.
+#[test]
+fn sides_that_share_no_element(rt: HostRuntime) {
+    for (mid, is_there, bytes) in [
+        (0, true, [0x00, 0x00]),
+        (4, false, [0x00, 0x00]),
+        (5, true, [0xF8, 0x00]),
+        (10, true, [0xF8, 0x1F]),
+    ] {
+        let mut elements = [0u8, 0];
+        assert!(rt;
+            (set_front(&mut elements, mid), elements) == (is_there, bytes),
+            "{mid}"
+        );
+    }
 }
 
 // Each call lends the bits from one place of the bytes up to another.

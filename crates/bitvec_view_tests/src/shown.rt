@@ -10,7 +10,7 @@ fn view_shows(alloc: Global, elements: &mut [u8; 1], others: &mut [u8; 1], text:
     let view = BitSliceMut::<u8, Lsb0>::from_slice_mut(elements);
     prints(alloc, &view, text)
         && shows(alloc, &view, text)
-        && view == BitSliceMut::from_slice_mut(others)
+        && view == BitSliceMut::<u8, Lsb0>::from_slice_mut(others)
 }
 
 /// Whether a walk over bits shows so behind the first one, as it is and by references, and one by values.

@@ -17,6 +17,9 @@ module _ {E C : Type 0} {access : Access C E} {old : C} where
       let loads = reads.loads in
       record { numbers = reads.numbers; borrow = reads.borrow; loads = omega arith; stores = reads.stores }
 
+  pub reads-within : {new : C} {m n : ℕ} → OnlyReads access old new m → m ≤ n → OnlyReadsAtMost access old new n
+  reads-within reads few = reads-most (reads-exact reads) few
+
   pub reads-is : {new : C} {m n : ℕ} → OnlyReads access old new m → n ≡ m → OnlyReads access old new n
   reads-is reads same =
       let loads = reads.loads in
@@ -39,6 +42,12 @@ module _ {E C : Type 0} {access : Access C E} {old : C} where
 
   pub costs-within : {new : C} {l s m n : ℕ} → Costs access old new l s → l ≤ m → s ≤ n → CostsAtMost access old new m n
   costs-within cost few stored =
+      let loads = cost.loads in
+      let stores = cost.stores in
+      record { borrow = cost.borrow; loads = omega arith; stores = omega arith }
+
+  pub costs-most : {new : C} {l s m n : ℕ} → CostsAtMost access old new l s → l ≤ m → s ≤ n → CostsAtMost access old new m n
+  costs-most cost few stored =
       let loads = cost.loads in
       let stores = cost.stores in
       record { borrow = cost.borrow; loads = omega arith; stores = omega arith }

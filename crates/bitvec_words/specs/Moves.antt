@@ -54,9 +54,10 @@ moved_place later k n = if later then n - k else 0
 abbrev pub waiting_place : Bool → ℕ → ℕ → ℕ
 waiting_place later k n = if later then n - k else k
 
--- what a move of n bits in elements of b bits may load and store beside: bytes, if they are many, may go by words, and then some go twice
-unfoldable pub late_words : ℕ → ℕ → ℕ
-late_words b n = if b == 8 then (if nat_le 640 n then 9 else 0) else 0
+-- What a move of n bits in elements of b bits may load and store beside, where at most `edges` of them lie beside whole elements: bytes that
+-- are many, but not very many, go by words, and then some go twice.
+unfoldable pub late_words : ℕ → ℕ → ℕ → ℕ
+late_words b edges n = if b == 8 then (if nat_le 640 n then (if nat_le (4096 + edges) n then 0 else 9) else 0) else 0
 
 -- ---- what is left
 

@@ -1,12 +1,12 @@
 -- The elements that windows side by side touch.
-use Rattle.std.proofs.Math.Nat.{add-mul-mod_self_right, add-mul, mul-mod_left, mul-le-mul_left}
+use Rattle.std.proofs.Math.Nat.{add-mul-mod_self_right, add-mul, mul-add-div_right, mul-mod_left, mul-le-mul_left}
 use Rattle.std.proofs.lemmas.Bool.Decides.{nat_tests}
-use Rattle.std.specs.Prelude.{◌≡◌, ◌≢◌, ℕ, min, ◌+◌, ◌-◌, ◌*◌, ◌/◌, ◌%◌, ◌<◌, ◌≤◌, List, length, refl}
+use Rattle.std.specs.Prelude.{◌≡◌, ◌≢◌, ℕ, zero, suc, min, ◌+◌, ◌-◌, ◌*◌, ◌/◌, ◌%◌, ◌<◌, ◌≤◌, List, length, refl}
 use Rattle.std.proofs.Common.{arith, ap}
 use Rattle.std.proofs.lemmas.Nat.{div-mul-add, div-add-mod', mod_below, mod-mul-add}
 use Rattle.bitvec_base.specs.declared.part.Part.{Part}
 use Rattle.bitvec_cells.specs.Cost.{part_loads, touched_count}
-use Rattle.bitvec_cells.specs.WalkLaws.{div-order, touched-none}
+use Rattle.bitvec_cells.specs.WalkLaws.{div-order, touched-none, touched-some}
 use Rattle.bitvec_base.specs.Memory.{HasWindow}
 use Rattle.bitvec_base.specs.declared.window.Window.{Window}
 use Rattle.bitvec_store.specs.Width.{IsWidth}
@@ -88,6 +88,17 @@ touched-more b s n some edge left =
     grind (arith, touched-edge b s (n / b * b) (n % b), touched-full b s (n / b * b), touched-one b (s + n / b * b) (n % b), add-mul-mod_self_right s (n / b) b, touched-whole b (s / b) (n / b), div-add-mod' s b, div-add-mod' n b, mod_below n b)
 
 -- the elements of a word
+-- how many elements a window touches, by the index of its first bit in the first of them
+pub touched-last : (b s n : ℕ) → 0 < b → 0 < n → touched_count b s n ≡ (s % b + n - 1) / b + 1
+touched-last b s zero some more = absurd (omega arith)
+touched-last b s (suc n) some more =
+    let place = div-add-mod' s b in
+    let last : s / b * b + (s % b + suc n - 1) ≡ s + n = omega arith in
+    let sum = ap (λ (m : ℕ). m / b) last in
+    let parts = mul-add-div_right some (s / b) (s % b + suc n - 1) in
+    let all = touched-some b s n in
+    omega arith
+
 pub touched-word : (b s : ℕ) → IsWidth b → b ≤ 64 → s % b ≡ 0 → touched_count b s 64 ≡ 64 / b
 touched-word b s width narrow edge =
     touched-full b s 64 (width_some b width) edge
@@ -95,6 +106,15 @@ touched-word b s width narrow edge =
 
 pub touched-from_full : (b s n : ℕ) → 0 < b → 0 < s % b → n % b ≡ 0 → touched_count b s n - 1 ≡ n / b
 touched-from_full b s n some inside full = grind (arith, touched-from b (s / b) (s % b) (n / b), div-add-mod' s b, div-add-mod' n b, mod_below s b)
+
+-- a word that begins inside an element touches one element more
+pub touched-word_across : (b s : ℕ) → IsWidth b → b ≤ 64 → 0 < s % b → touched_count b s 64 ≡ 64 / b + 1
+touched-word_across b s width narrow inside =
+    let some = width_some b width in
+    let full = at_each_width (λ n. n ≤ 64 → 64 % n ≡ 0) (λ _. refl) (λ _. refl) (λ _. refl) (λ _. refl) (λ few. absurd (omega arith)) b width narrow in
+    let rest = touched-from_full b s 64 some inside full in
+    let one = touched-first b s 64 (omega arith) in
+    omega arith
 
 pub touched-from_more : (b s n : ℕ) → 0 < b → 0 < s % b → 0 < n % b → touched_count b s n - 1 ≡ n / b + (touched_count b (s + n / b * b) (n % b) - 1)
 touched-from_more b s n some inside left =

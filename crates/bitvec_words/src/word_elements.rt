@@ -1,9 +1,11 @@
 //! The elements of a word of 64 bits.
-ghost use Rattle.std.specs.Prelude.{◌≡◌, ◌+◌, ◌*◌, ◌/◌, ◌≤◌};
+ghost use Rattle.std.specs.Prelude.{◌≡◌, ◌+◌, ◌*◌, ◌/◌, ◌<◌, ◌≤◌};
 ghost use Rattle.bitvec_base.specs.Memory.{HasWindow, Writes, element_bits, list_in};
 ghost use Rattle.bitvec_cells.specs.Access.{Costs, OnlyReads};
-ghost use Rattle.bitvec_words.specs.Elements.{SameElements, elements_window};
+ghost use Rattle.bitvec_cells.specs.Cost.{touched_count};
+ghost use Rattle.bitvec_words.specs.Elements.{SameElements, elements_window, elements_window_from};
 
+use crate::element::joined;
 use crate::pieces::behind_pieces;
 use crate::word_order::WordOrder;
 use crate::word_parts::{WORD_BITS, moved};
@@ -38,6 +40,27 @@ pub(crate) fn load_word_behind<O: WordOrder, C: CellsRead>(
     ensures reads { OnlyReads C.CellsRead cells.old cells.new (64 / C.Elem.BITS) }
 {
     load_elements::<O, C>(cells, behind_pieces::<C::Elem>(WORD_BITS, first, count))
+}
+
+/// The 64 bits from the index `skip` of the element `first` on: those of one word, and what is left of them with the next
+/// element. Condition: `skip` is below the width; elements are not wider than a word, and the bits lie in a memory of at
+/// most `MAX_BITS` bits. It loads each element that the bits touch once.
+#[inline(always)]
+pub fn load_across<O: WordOrder, C: CellsRead>(cells: &mut C, first: usize, skip: usize) -> u64
+    requires window { HasWindow C.Elem.BITS (C.numbers cells.old) (elements_window_from C.Elem.BITS first skip (64 / C.Elem.BITS)) }
+    requires inside { skip < C.Elem.BITS }
+    requires narrow { C.Elem.BITS ≤ 64 }
+    ensures value { element_bits 64 O.at result
+        ≡ list_in C.Elem.BITS O.at (C.numbers cells.old) (elements_window_from C.Elem.BITS first skip (64 / C.Elem.BITS)) }
+    ensures reads { OnlyReads C.CellsRead cells.old cells.new (touched_count C.Elem.BITS (first * C.Elem.BITS + skip) 64) }
+{
+    let word = load_elements::<O, C>(cells, first);
+    if skip == 0 {
+        return word;
+    }
+    let next = cells.load(first + elements_of::<C::Elem>(WORD_BITS));
+    let behind = moved::<O, C::Elem, u64>(next, 0, C::Elem::BITS as usize, 0);
+    joined::<O, u64>(word, behind, skip)
 }
 
 /// Stores the elements of one word from the element `first` on. Condition: as for [`load_elements`].

@@ -4,23 +4,13 @@ use Rattle.std.specs.Fmt.{decimal}
 use Rattle.std.specs.Io.KnownBytes.{Appends}
 use Rattle.std.specs.List.{flat_map}
 use Rattle.std.specs.Str.{all_ascii_digits, bytes_eq}
-use Rattle.std.specs.Str.Parse.{digits_value, without_leading_plus}
+use Rattle.numerals.specs.Numerals.{number_of}
 use Rattle.bitvec.specs.Arrays.{msb0_bits}
 use Rattle.canframe.specs.Frames.{IsFrame, LacksFrame}
 use Rattle.canframe.specs.declared.fault.Fault.{Fault}
 use Rattle.canframe.specs.declared.fault.Fault.TheVariants.{Arguments, Memory, NoFrame}
 
 -- ---- words
-
--- the number of one or more decimal digits, where it has at most so many bits
-abbrev pub numeral_of : ℕ → List ℕ → Option ℕ
-numeral_of bits digits =
-    if nat_lt 0 (length digits) && all_ascii_digits digits && nat_lt (digits_value 10 digits) (2 ^ bits)
-    then Some (digits_value 10 digits) else None
-
--- a plus may stand before the digits
-unfoldable pub number_of : ℕ → List ℕ → Option ℕ
-number_of bits word = numeral_of bits (without_leading_plus word)
 
 abbrev pub byte_of : List ℕ → Option ℕ
 byte_of word = number_of 8 word

@@ -1,7 +1,7 @@
 //! Frames in bits.
 ghost use Rattle.std.specs.Prelude.{◌≡◌, ℕ, ◌+◌, ◌*◌, ◌^◌, ◌<◌, ◌≤◌, ◌↔◌, ◌⊎◌, IfErr, IfNone, IfOk, IfSome, IsOk, IsTrue, List, OnErr, OnOk, length};
 ghost use Rattle.bitvec.specs.Arrays.{msb0_bits};
-ghost use Rattle.bitvec.specs.Cursors.{KeepsElements, writing};
+ghost use Rattle.bitvec.specs.Cursors.{KeepsElements, limit_of, writing};
 ghost use Rattle.bitvec.specs.Ranges.{ChangesOnly, bits_in};
 ghost use Rattle.canframe.specs.Checksums.{crc_of};
 ghost use Rattle.canframe.specs.Frames.{HasBytes, HasHeader, IsFrame, IsSealed, LacksFrame, field};
@@ -31,7 +31,7 @@ fn put_header(writer: &mut Writer<'_>, id: u16, count: usize) -> Result<(), Curs
     requires few { count ≤ 8 }
     ensures header { OnOk result (HasHeader (writing writer.new).bits id count) }
     ensures position { OnOk result ((writing writer.new).position ≡ 19) }
-    ensures refused { OnErr result (length (writing writer.old).bits < 19) }
+    ensures refused { OnErr result (limit_of writer.old < 19) }
     ensures elements { KeepsElements writer.old writer.new result }
 {
     writer.put_row(&[
@@ -54,7 +54,7 @@ fn put_bytes(writer: &mut Writer<'_>, bytes: &[u8]) -> Result<(), CursorError>
     ensures bytes { OnOk result (HasBytes (writing writer.new).bits (length bytes.now) bytes.now) }
     ensures position { OnOk result ((writing writer.new).position ≡ 19 + 8 * length bytes.now) }
     ensures outside { OnOk result (ChangesOnly 19 (19 + 8 * length bytes.now) (writing writer.old).bits (writing writer.new).bits) }
-    ensures refused { OnErr result (length (writing writer.old).bits < 19 + 8 * length bytes.now) }
+    ensures refused { OnErr result (limit_of writer.old < 19 + 8 * length bytes.now) }
     ensures elements { KeepsElements writer.old writer.new result }
 {
     if writer.remaining() / 8 < bytes.len() {
@@ -83,7 +83,7 @@ fn put_checksum(writer: &mut Writer<'_>) -> Result<(), CursorError>
     ensures header { OnOk result ((id count : ℕ) → HasHeader (writing writer.old).bits id count → HasHeader (writing writer.new).bits id count) }
     ensures bytes { OnOk result ((count : ℕ) (bytes : List ℕ) → HasBytes (writing writer.old).bits count bytes → 19 + 8 * count ≤ (writing writer.old).position → HasBytes (writing writer.new).bits count bytes) }
     ensures sealed { OnOk result (IsSealed (writing writer.new).bits (writing writer.old).position) }
-    ensures refused { OnErr result (length (writing writer.old).bits < (writing writer.old).position + 21) }
+    ensures refused { OnErr result (limit_of writer.old < (writing writer.old).position + 21) }
     ensures elements { KeepsElements writer.old writer.new result }
 {
     if writer.remaining() < 21 {

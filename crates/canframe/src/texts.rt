@@ -1,33 +1,20 @@
 //! Numbers as text.
 ghost use Rattle.std.specs.Prelude.{◌≡◌, ◌<◌, ◌⊎◌, IfErr, IfOk, IfSome, OnOk, length, map, string_bytes};
 ghost use Rattle.std.specs.Io.KnownBytes.{Appends};
-ghost use Rattle.canframe.specs.Program.{AreBytes, LacksByte, byte_of, bytes_text, id_of, number_of};
+ghost use Rattle.canframe.specs.Program.{AreBytes, LacksByte, byte_of, bytes_text, id_of};
 ghost use Rattle.canframe.specs.declared.fault.Fault.TheVariants.{Arguments, Memory};
 
 use crate::fault::Fault;
+use numerals::{parse_u8, parse_u16};
 use std::alloc::Global;
 use std::io::{self, Write};
-
-/// The number of a word of decimal digits, which has at most 8 bits.
-fn parse_byte(word: &str) -> Option<u8>
-    ensures { result ≡ byte_of word.now }
-{
-    word.parse().ok()
-}
-
-/// The number of a word of decimal digits, which has at most 16 bits.
-fn parse_number(word: &str) -> Option<u16>
-    ensures { result ≡ number_of 16 word.now }
-{
-    word.parse().ok()
-}
 
 /// The id of a word of decimal digits, which has at most 11 bits.
 pub fn parse_id(word: &str) -> Option<u16>
     ensures id { result ≡ id_of word.now }
     ensures valid { IfSome result (λ id. id < 2048) }
 {
-    let id = parse_number(word)?;
+    let id = parse_u16(word)?;
     if id < 2048 { Some(id) } else { None }
 }
 
@@ -39,7 +26,7 @@ pub fn parse_bytes(alloc: Global, words: &[String]) -> Result<Vec<u8>, Fault>
 {
     let mut bytes = Vec::new(alloc);
     for word in words {
-        let byte = parse_byte(word.as_str()).ok_or(Fault::Arguments)?;
+        let byte = parse_u8(word.as_str()).ok_or(Fault::Arguments)?;
         bytes.push(byte).or(Err(Fault::Memory))?;
     }
     Ok(bytes)

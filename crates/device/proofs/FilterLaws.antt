@@ -3,7 +3,8 @@ use Rattle.std.proofs.Common.{◌≡◌, ℕ, zero, suc, ◌+◌, ◌<◌, map, 
 use Rattle.std.specs.Prelude.{IsSomeAnd, ◌≢◌}
 use Rattle.std.proofs.lemmas.List.Elements.{All-pop, All-push, All-weaker}
 use Rattle.device.specs.Filter.{Has, Inserts, place_of}
-use Rattle.device.specs.Numbers.{◌>>=◌, number_of, numbers_of, with_number}
+use Rattle.device.specs.Numbers.{◌>>=◌, numbers_of, with_number}
+use Rattle.numerals.specs.Numerals.{number_of}
 use Rattle.device.specs.Parts.{IsFilter}
 use Rattle.device.specs.declared.bloom.Bloom.{Bloom}
 

@@ -1,3 +1,2 @@
 pub mod FilterLaws
-pub mod NumberLaws
 pub mod WorkLaws

@@ -4,9 +4,10 @@ use Rattle.std.specs.Str.{bytes_eq}
 use Rattle.bitvec.specs.Arrays.{lsb0_bits}
 use Rattle.device.specs.Chunks.{HaveNumbers}
 use Rattle.device.specs.Filter.{Has, place_of}
-use Rattle.device.specs.Numbers.{◌>>=◌, number_of, numbers_of}
+use Rattle.device.specs.Numbers.{◌>>=◌, numbers_of}
 use Rattle.device.specs.Pattern.{HasPattern}
 use Rattle.device.specs.Registers.{IsReserved, baud_of, bits_of, data_of, parity_of}
+use Rattle.numerals.specs.Numerals.{number_of}
 use Rattle.device.specs.declared.bloom.Bloom.{Bloom}
 use Rattle.device.specs.declared.part.Part.{Part}
 use Rattle.device.specs.declared.part.Part.TheVariants as part

@@ -1,6 +1,6 @@
 //! What the words after the program's name ask for.
 ghost use Rattle.std.specs.Prelude.{◌≡◌, ◌<◌, ◌≤◌, map, string_bytes};
-ghost use Rattle.device.specs.Numbers.{number_of, numbers_of};
+ghost use Rattle.device.specs.Numbers.{numbers_of};
 ghost use Rattle.device.specs.Parts.{HasChunks, IsUart, Makes, MakesFilter, asked_of, bloom_of, chunks_of, part_of, pattern_of, uart_of};
 
 use crate::bloom::Bloom;
@@ -9,6 +9,7 @@ use crate::pattern::pattern;
 use crate::uart::Uart;
 use bitvec::in_place;
 use bitvec::prelude::*;
+use numerals::{parse_u8, parse_u16, parse_u64};
 
 /// A part of the device, whose bits were set as the words say.
 #[derive(Drop)]
@@ -47,27 +48,6 @@ fn parse_part(name: &str, words: &[String]) -> Option<Part>
         "chunks" => parse_chunks(words),
         _ => None,
     }
-}
-
-/// The number of a word, which has at most 8 bits.
-fn parse_u8(word: &str) -> Option<u8>
-    ensures { result ≡ number_of 8 word.now }
-{
-    word.parse().ok()
-}
-
-/// The number of a word, which has at most 16 bits.
-fn parse_u16(word: &str) -> Option<u16>
-    ensures { result ≡ number_of 16 word.now }
-{
-    word.parse().ok()
-}
-
-/// The number of a word, which has at most 64 bits.
-fn parse_u64(word: &str) -> Option<u64>
-    ensures { result ≡ number_of 64 word.now }
-{
-    word.parse().ok()
 }
 
 /// A serial port with three fields; its reserved bits are ones. Condition: the parity is below 4.

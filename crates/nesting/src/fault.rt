@@ -11,7 +11,7 @@ use std::fmt::{self, Display, Formatter};
 pub enum Fault {
     /// A word is no text.
     Arguments,
-    /// All nesting are taken.
+    /// A bracket closes nothing.
     Stray,
     /// There was no room for the words, the marks or the answer.
     Memory,

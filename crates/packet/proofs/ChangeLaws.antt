@@ -16,7 +16,7 @@ use Rattle.packet.specs.Checksums.{checksum_of, checksum_word, sum_words}
 use Rattle.packet.specs.Packets.{AreFields, AreWords, numbers_at, packet_bits}
 use Rattle.packet.specs.declared.changes.Change.{Change}
 use Rattle.packet.specs.declared.field.TheConstants.{CHECKSUM}
-use Rattle.bitrecord.specs.FieldLaws.{number-below, numbers-set}
+use Rattle.bitrecord.specs.FieldLaws.{number-below, record-set}
 use Rattle.packet.proofs.SumLaws.{checksum-right}
 
 -- the words of a list of bits have 16 bits
@@ -34,16 +34,6 @@ done (Ok y) x is p = p
 done (Err y) x is p = absurd (cc)
 
 module _ {T O : Type 0} {t : Store T} {o : Order O} where
-  -- one field written
-  pub field-written : (bits n value : ℕ) (fields : List Window) (before after : BitSliceMut T O t o) → IsLayout bits fields → (seen_mut before).window.len ≡ bits → n < length fields
-      → WritesField Big true (field_at fields n) value before after → numbers_seen after fields ≡ slice_set (numbers_seen before fields) n value
-  field-written bits n value fields before after layout many below wrote =
-      let place = wrote.written.window in
-      ap (λ (w : Window). record_in Big true t.BITS w.start (seen_mut after).bits fields) place
-      ∙ numbers-set Big true t.BITS (seen_mut before).window.start bits n value fields (seen_mut before).bits (seen_mut after).bits layout (length-seen_mut before ∙ many)
-      (length-seen_mut after ∙ ap (λ (w : Window). w.len) place ∙ many) below
-      (ap (λ (w : Window). field_number Big true t.BITS w.start (seen_mut after).bits (field_at fields n)) (sym place) ∙ wrote.number) wrote.others
-
   -- no change, and one more
   pub changes-none : (fields : List Window) (v : BitSliceMut T O t o) → WritesChanges fields [] v v
   changes-none fields v = record { numbers = refl; others = λ place d beside. refl; written = written-none v }
@@ -51,7 +41,7 @@ module _ {T O : Type 0} {t : Store T} {o : Order O} where
   pub changes-more : (bits : ℕ) (fields : List Window) (changes : List Change) (change : Change) (first now after : BitSliceMut T O t o) → IsLayout bits fields → (seen_mut first).window.len ≡ bits
       → change.number < length fields → WritesChanges fields changes first now → WritesField Big true (field_at fields change.number) change.value now after → WritesChanges fields (changes ++ change ∷ []) first after
   changes-more bits fields changes change first now after layout many below far wrote = record {
-    numbers = field-written bits change.number change.value fields now after layout (ap (λ (w : Window). w.len) far.written.window ∙ many) below wrote
+    numbers = record-set Big true bits change.number change.value fields now after layout (ap (λ (w : Window). w.len) far.written.window ∙ many) below wrote
         ∙ ap (λ (list : List ℕ). slice_set list change.number change.value) far.numbers
         ∙ sym (fold_push (λ (list : List ℕ) (c : Change). slice_set list c.number c.value) (numbers_seen first fields) changes change);
     others = λ place d beside.
@@ -71,9 +61,9 @@ module _ {T O : Type 0} {t : Store T} {o : Order O} where
       let same : field_at fields CHECKSUM ≡ field_at words checksum_word = are.checksum ∙ sym (of.each checksum_word of.some) in
       let len : (seen_mut middle).window.len ≡ bits = ap (λ (w : Window). w.len) zero.written.window ∙ many in
       let old : numbers_seen middle words ≡ slice_set (numbers_seen before words) checksum_word 0 =
-      field-written bits checksum_word 0 words before middle also many of.some (subst (λ (w : Window). WritesField Big true w 0 before middle) same zero) in
+      record-set Big true bits checksum_word 0 words before middle also many of.some (subst (λ (w : Window). WritesField Big true w 0 before middle) same zero) in
       let new : numbers_seen after words ≡ slice_set (numbers_seen middle words) checksum_word (65535 - sum) =
-      field-written bits checksum_word (65535 - sum) words middle after also len of.some (subst (λ (w : Window). WritesField Big true w (65535 - sum) middle after) same wrote) in
+      record-set Big true bits checksum_word (65535 - sum) words middle after also len of.some (subst (λ (w : Window). WritesField Big true w (65535 - sum) middle after) same wrote) in
       let none : slice_set (numbers_seen middle words) checksum_word 0 ≡ numbers_seen middle words =
       ap (λ (l : List ℕ). slice_set l checksum_word 0) old ∙ set-set (numbers_seen before words) checksum_word 0 0 ∙ sym old in
       let wanting : 65535 - sum ≡ checksum_of (numbers_seen middle words) = ap (λ (n : ℕ). 65535 - n) is ∙ ap (λ (l : List ℕ). 65535 - sum_words l) (sym none) in
@@ -82,8 +72,8 @@ module _ {T O : Type 0} {t : Store T} {o : Order O} where
       let size = length-map words (field_number Big true t.BITS (seen_mut middle).window.start (seen_mut middle).bits) in
       let some = of.some in
       record {
-        numbers = field-written bits CHECKSUM (65535 - sum) fields middle after layout len are.some wrote
-            ∙ ap (λ (l : List ℕ). slice_set l CHECKSUM (65535 - sum)) (field-written bits CHECKSUM 0 fields before middle layout many are.some zero)
+        numbers = record-set Big true bits CHECKSUM (65535 - sum) fields middle after layout len are.some wrote
+            ∙ ap (λ (l : List ℕ). slice_set l CHECKSUM (65535 - sum)) (record-set Big true bits CHECKSUM 0 fields before middle layout many are.some zero)
             ∙ set-set (numbers_seen before fields) CHECKSUM 0 (65535 - sum)
             ∙ ap (λ (n : ℕ). slice_set (numbers_seen before fields) CHECKSUM n) here;
         right = ap sum_words (new ∙ ap (λ (n : ℕ). slice_set (numbers_seen middle words) checksum_word n) wanting)

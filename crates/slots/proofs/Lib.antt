@@ -1,3 +1,2 @@
-pub mod NumberLaws
 pub mod PlaceLaws
 pub mod RunLaws

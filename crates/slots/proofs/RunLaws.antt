@@ -1,99 +1,59 @@
--- The runs of taken places, as searches find them.
-use Rattle.std.proofs.Common.{◌≡◌, ◌≢◌, ℕ, ◌+◌, ◌-◌, ◌<◌, ◌≤◌, Bool, true, false, List, [], ◌∷◌, ◌++◌, length, Option, Some, None, sym, ap, subst, ◌∙◌, arith, append-nil, append_assoc}
-use Rattle.std.specs.Prelude.{slice_index_or, slice_range}
+-- The runs of taken places, as searches find them and as they are printed.
+use Rattle.std.proofs.Common.{◌≡◌, ◌≢◌, ℕ, ◌+◌, ◌≤◌, Bool, true, false, not, List, [], ◌∷◌, ◌++◌, length, None, Option, Some, refl, sym, ap, subst, ◌∙◌, append-nil, append_assoc, arith}
+use Rattle.std.specs.Prelude.{slice_index_or}
 use Rattle.std.specs.Io.KnownBytes.{Appends}
 use Rattle.std.proofs.KnownBytes.{Appends-trans}
 use Rattle.std.proofs.Math.ListN.{get_or-eq_default}
 use Rattle.std.specs.List.{flat_map}
 use Rattle.std.specs.declared.ops.Range.{Range}
 use Rattle.std.proofs.lemmas.Grind.{flat_map-append}
+use Rattle.bitvec.specs.FoundLaws.{first_in-absent, first_in-before, first_in-below, first_in-bit}
 use Rattle.bitvec.specs.Lists.{first_place}
 use Rattle.bitvec.specs.Pieces.{range_of}
-use Rattle.bitvec.specs.PlacesLaws.{first_place-absent, first_place-before, first_place-below, first_place-bit}
-use Rattle.bitvec.specs.WriteLaws.{get-slice_range, length-slice_range}
-use Rattle.slots.specs.Places.{IsFree}
+use Rattle.bitvec.specs.Ranges.{bits_in}
+use Rattle.slots.specs.Places.{Holds, IsFree}
 use Rattle.slots.specs.Runs.{AreRuns, IsNextRun, ShowsRuns, range_text}
-use Rattle.slots.proofs.PlaceLaws.{only_false, only_true, part-shows}
 
--- ---- what searches of the places from one on find, in a map of `len` places
+the-other : (bit other : Bool) → other ≢ bit → other ≡ not bit
+the-other true true apart = absurd (apart refl)
+the-other true false apart = refl
+the-other false true apart = refl
+the-other false false apart = absurd (apart refl)
 
--- no place is taken
-pub free-rest : (map : List Bool) (from len : ℕ) → from ≤ len → len ≡ length map → first_place true (slice_range map from len) ≡ None → IsFree map (range_of from (length map))
-free-rest map from len inside all none =
-    let long = length-slice_range map from len (omega arith) in
-    record {
-      there = (omega arith, omega arith);
-      each = λ place low high. sym (part-shows map from len place low (omega arith))
-          ∙ only_false _ (first_place-absent true (slice_range map from len) none (place - from) (omega arith));
-    }
+module _ (bit : Bool) (map : List Bool) (from to : ℕ) (inside : to ≤ length map) where
+  -- the places before the first one with this bit have the other one
+  holds-before : (i : ℕ) → first_place bit (bits_in map from to) ≡ Some i → Holds (not bit) map (range_of from (from + i))
+  holds-before i found =
+      let below = first_in-below bit map from to inside i found in
+      record { there = (omega arith, omega arith); each = λ place low high. the-other bit _ (first_in-before bit map from to inside i place found low high) }
 
--- what is found is one of them
-pub first-within : (map : List Bool) (from len offset : ℕ) (wanted : Bool) → len ≡ length map → first_place wanted (slice_range map from len) ≡ Some offset → offset < len - from
-first-within map from len offset wanted all found =
-    let long = length-slice_range map from len (omega arith) in
-    let within = first_place-below wanted (slice_range map from len) offset found in
-    omega arith
+  -- or all have it
+  pub holds-all : from ≤ to → first_place bit (bits_in map from to) ≡ None → Holds (not bit) map (range_of from to)
+  holds-all order none = record { there = (order, inside); each = λ place low high. the-other bit _ (first_in-absent bit map from to inside place none low high) }
 
--- the places before the first taken one are free
-pub free-before : (map : List Bool) (from len offset : ℕ) → from ≤ len → len ≡ length map → first_place true (slice_range map from len) ≡ Some offset → IsFree map (range_of from (from + offset))
-free-before map from len offset inside all found =
-    let long = length-slice_range map from len (omega arith) in
-    let within = first_place-below true (slice_range map from len) offset found in
-    record {
-      there = (omega arith, omega arith);
-      each = λ place low high. sym (part-shows map from len place low (omega arith))
-          ∙ only_false _ (first_place-before true (slice_range map from len) offset (place - from) found (omega arith));
-    }
+module _ (map : List Bool) (from len start : ℕ) (inside : len ≤ length map) (found : first_place true (bits_in map from len) ≡ Some start) where
+  -- a run goes from the first taken place up to the first free one behind it
+  pub run-to_free : (free : ℕ) → first_place false (bits_in map (from + start) len) ≡ Some free → IsNextRun map from (range_of (from + start) (from + start + free))
+  run-to_free free after =
+      let within = first_in-below false map (from + start) len inside free after in
+      let here : slice_index_or map (from + start) false ≡ true = first_in-bit true map from len inside start (from + start) found refl in
+      let end : slice_index_or map (from + start + free) false ≡ false = first_in-bit false map (from + start) len inside free (from + start + free) after refl in
+      let moved : free ≢ 0 = λ zero.
+      let same : from + start + free ≡ from + start = omega arith in
+      let taken = ap (λ (k : ℕ). slice_index_or map k false) same ∙ here in
+      absurd (cc (end, taken)) in
+      record { before = holds-before true map from len inside start found; some = omega arith; taken = holds-before false map (from + start) len inside free after; whole = end }
 
--- it is there, and taken
-pub first-taken : (map : List Bool) (from len offset : ℕ) → from ≤ len → len ≡ length map → first_place true (slice_range map from len) ≡ Some offset
-    → (from + offset < len) × (slice_index_or map (from + offset) false ≡ true)
-first-taken map from len offset inside all found =
-    let long = length-slice_range map from len (omega arith) in
-    let within = first_place-below true (slice_range map from len) offset found in
-    let bit = first_place-bit true (slice_range map from len) offset found in
-    (omega arith, sym (get-slice_range map from len offset false (omega arith)) ∙ bit)
-
--- a run goes from a taken place up to the first free one behind it
-pub run-to_free : (map : List Bool) (from start len offset : ℕ) → IsFree map (range_of from start) → start < len → len ≡ length map → slice_index_or map start false ≡ true
-    → first_place false (slice_range map start len) ≡ Some offset → IsNextRun map from (range_of start (start + offset))
-run-to_free map from start len offset before below all here found =
-    let long = length-slice_range map start len (omega arith) in
-    let within = first_place-below false (slice_range map start len) offset found in
-    let bit = first_place-bit false (slice_range map start len) offset found in
-    let end = get-slice_range map start len offset false (omega arith) in
-    let moved : offset ≢ 0 = λ zero.
-    let same : start + offset ≡ start = omega arith in
-    let taken = ap (λ (k : ℕ). slice_index_or map k false) same ∙ here in
-    absurd (cc (end, bit, taken)) in
-    record {
-      before = before;
-      some = omega arith;
-      taken = record {
-        there = (omega arith, omega arith);
-        each = λ place low high. sym (part-shows map start len place low (omega arith))
-            ∙ only_true _ (first_place-before false (slice_range map start len) offset (place - start) found (omega arith));
-      };
-      whole = sym end ∙ bit;
-    }
-
--- or to the end of the map
-pub run-to_end : (map : List Bool) (from start len : ℕ) → IsFree map (range_of from start) → start < len → len ≡ length map → first_place false (slice_range map start len) ≡ None
-    → IsNextRun map from (range_of start len)
-run-to_end map from start len before below all none =
-    let long = length-slice_range map start len (omega arith) in
-    record {
-      before = before;
-      some = below;
-      taken = record {
-        there = (omega arith, omega arith);
-        each = λ place low high. sym (part-shows map start len place low high)
-            ∙ only_true _ (first_place-absent false (slice_range map start len) none (place - start) (omega arith));
-      };
-      whole = get_or-eq_default map false (omega arith);
-    }
-
--- ---- printing them
+  -- or to the end of the map
+  pub run-to_end : length map ≤ len → first_place false (bits_in map (from + start) len) ≡ None → IsNextRun map from (range_of (from + start) len)
+  run-to_end whole none =
+      let below = first_in-below true map from len inside start found in
+      record {
+        before = holds-before true map from len inside start found;
+        some = below;
+        taken = holds-all false map (from + start) len inside (omega arith) none;
+        whole = get_or-eq_default map false (omega arith);
+      }
 
 -- the runs before the place `from` were printed
 pub record HasShown (map : List Bool) (from : ℕ) (before now : Option (List ℕ)) : Type 0 where

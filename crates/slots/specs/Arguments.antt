@@ -1,10 +1,8 @@
 -- The words after the program's name.
 use Rattle.std.specs.Prelude.{ℕ, ◌+◌, ◌^◌, ◌&&◌, ◌==◌, nat_lt, slice_index_or, drop, if◌then◌else◌, List, [], length, Option, Some, None, option_and_then, codes}
-use Rattle.std.specs.Char.{is_ascii_digit}
-use Rattle.std.specs.List.{list_all}
 use Rattle.std.specs.Option.{option_map}
 use Rattle.std.specs.Str.{bytes_eq}
-use Rattle.std.specs.Str.Parse.{digits_value, without_leading_plus}
+use Rattle.numerals.specs.Numerals.{number_of}
 use Rattle.std.specs.declared.ops.Range.{Range}
 use Rattle.slots.specs.declared.arguments.Arguments.{Arguments}
 use Rattle.slots.specs.declared.arguments.Request.{Request}
@@ -15,22 +13,12 @@ infixl 10 ◌>>=◌
 abbrev pub ◌>>=◌ : {A B : Type 0} → Option A → (A → Option B) → Option B
 o >>= f = option_and_then f o
 
--- the number of one or more decimal digits, where it fits 64 bits
-abbrev pub numeral_of : List ℕ → Option ℕ
-numeral_of digits =
-    if nat_lt 0 (length digits) && list_all is_ascii_digit digits && nat_lt (digits_value 10 digits) (2 ^ 64)
-    then Some (digits_value 10 digits) else None
-
--- a plus may stand before the digits
-unfoldable pub number_of : List ℕ → Option ℕ
-number_of word = numeral_of (without_leading_plus word)
-
 abbrev pub word_at : List (List ℕ) → ℕ → List ℕ
 word_at words k = slice_index_or words k []
 
 -- COUNT alone
 abbrev pub one_number : List (List ℕ) → Option ℕ
-one_number words = if length words == 1 then number_of (word_at words 0) else None
+one_number words = if length words == 1 then number_of 64 (word_at words 0) else None
 
 -- so many places from one on, where they end within the numbers of 64 bits
 abbrev pub places_from : ℕ → ℕ → Option (Range ℕ)
@@ -39,8 +27,8 @@ places_from start count = if nat_lt (start + count) (2 ^ 64) then Some (record {
 -- START, of one place, or START COUNT
 abbrev pub places_of : List (List ℕ) → Option (Range ℕ)
 places_of words =
-    if length words == 1 then (number_of (word_at words 0) >>= λ start. places_from start 1)
-    else if length words == 2 then (number_of (word_at words 0) >>= λ start. number_of (word_at words 1) >>= λ count. places_from start count)
+    if length words == 1 then (number_of 64 (word_at words 0) >>= λ start. places_from start 1)
+    else if length words == 2 then (number_of 64 (word_at words 0) >>= λ start. number_of 64 (word_at words 1) >>= λ count. places_from start count)
     else None
 
 -- a verb and its words

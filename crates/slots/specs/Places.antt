@@ -1,8 +1,8 @@
 -- A map is a list of truth values, a place each: true is taken.
 use Rattle.std.specs.Prelude.{◌≡◌, ℕ, ◌+◌, ◌<◌, ◌≤◌, Bool, true, false, List, length, slice_index_or}
 use Rattle.std.specs.declared.ops.Range.{Range}
+use Rattle.bitvec.specs.Fits.{HasNoRun, IsFirstRun}
 use Rattle.bitvec.specs.Indices.{HasRange}
-use Rattle.bitvec.specs.Pieces.{range_of}
 
 -- the places of the range are all there, and each has this bit
 pub record Holds (bit : Bool) (map : List Bool) (range : Range ℕ) : Type 0 where
@@ -15,16 +15,11 @@ IsFree map range = Holds false map range
 abbrev pub IsTaken : List Bool → Range ℕ → Type 0
 IsTaken map range = Holds true map range
 
--- from no place before `end` on are `count` neighbouring places free
-abbrev pub HasNoFitBefore : List Bool → ℕ → ℕ → Type 0
-HasNoFitBefore map count end = (start : ℕ) → start < end → ¬ IsFree map (range_of start (start + count))
-
--- from no place on are they
-abbrev pub HasNoFit : List Bool → ℕ → Type 0
-HasNoFit map count = (start : ℕ) → ¬ IsFree map (range_of start (start + count))
-
--- `count` neighbouring places that are free, and the first such
+-- the first `count` neighbouring places that are free
 pub record IsFirstFit (map : List Bool) (count : ℕ) (range : Range ℕ) : Type 0 where
-  pub free : IsFree map range
+  pub run : IsFirstRun false map count range.start
   pub long : range.end ≡ range.start + count
-  pub first : HasNoFitBefore map count range.start
+
+-- nowhere are `count` neighbouring places free
+abbrev pub HasNoFit : List Bool → ℕ → Type 0
+HasNoFit map count = HasNoRun false map count

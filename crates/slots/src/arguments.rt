@@ -1,9 +1,10 @@
 //! The words after the program's name.
 ghost use Rattle.std.specs.Prelude.{◌≡◌, IfSome, IfNone, map, string_bytes};
 ghost use Rattle.std.specs.Option.{option_map};
-ghost use Rattle.slots.specs.Arguments.{Given, given, given_of, number_of, one_number, places_from, places_of, request_of};
+ghost use Rattle.slots.specs.Arguments.{Given, given, given_of, one_number, places_from, places_of, request_of};
 
 use crate::places::Change;
+use numerals::parse_usize;
 use std::ops::Range;
 
 /// What is asked for.
@@ -53,19 +54,12 @@ fn parse_request(verb: &str, words: &[String]) -> Option<Request>
     }
 }
 
-/// The number of a word of decimal digits, which a plus may precede.
-fn parse_number(word: &str) -> Option<usize>
-    ensures { result ≡ number_of word.now }
-{
-    word.parse().ok()
-}
-
 /// The number of the one word.
 fn parse_one(words: &[String]) -> Option<usize>
     ensures { result ≡ one_number (map string_bytes words.now) }
 {
     match words {
-        [word] => parse_number(word.as_str()),
+        [word] => parse_usize(word.as_str()),
         _ => None,
     }
 }
@@ -83,10 +77,10 @@ fn parse_places(words: &[String]) -> Option<Range<usize>>
     ensures { result ≡ places_of (map string_bytes words.now) }
 {
     match words {
-        [start] => places_from(parse_number(start.as_str())?, 1),
+        [start] => places_from(parse_usize(start.as_str())?, 1),
         [start, count] => {
-            let start = parse_number(start.as_str())?;
-            places_from(start, parse_number(count.as_str())?)
+            let start = parse_usize(start.as_str())?;
+            places_from(start, parse_usize(count.as_str())?)
         }
         _ => None,
     }

@@ -1,5 +1,6 @@
 //! Taking places of a map, and giving them back. A place is a bit: 1 is taken.
 ghost use Rattle.std.specs.Prelude.{◌≡◌, ◌-◌, ◌↔◌, IsTrue, IfSome, IfNone, OnOk, OnErr, IfOk, IfErr, true, false, length, replicate};
+ghost use Rattle.bitvec.specs.Fits.{HasNoRun, IsFirstRun};
 ghost use Rattle.bitvec.specs.Views.{name_of, seen, seen_mut};
 ghost use Rattle.bitvec.specs.Window.{write_at};
 ghost use Rattle.bitvec.specs.Writes.{WritesBits};
@@ -10,23 +11,19 @@ use crate::fault::Fault;
 use bitvec::prelude::*;
 use std::ops::Range;
 
-/// The first so many neighbouring places that are free; of no place the range 0..0. None, if so many
+/// Where the first so many neighbouring places that are free begin; of no place 0. None, if so many
 /// nowhere are.
-#[tactic(auto, using(bitvec::specs::Laws::found))]
-fn first_fit<T: BitStore, O: SliceOrder>(
-    places: BitSlice<'_, T, O>,
-    count: usize,
-) -> Option<Range<usize>>
-    ensures fit { IfSome result (IsFirstFit (seen places.entry).bits count) }
-    ensures none { IfNone result (HasNoFit (seen places.entry).bits count) }
+#[tactic(auto, using(bitvec::specs::Laws::found, bitvec::specs::Laws::fitting))]
+fn first_fit<T: BitStore, O: SliceOrder>(places: BitSlice<'_, T, O>, count: usize) -> Option<usize>
+    ensures fit { IfSome result (IsFirstRun false (seen places.entry).bits count) }
+    ensures none { IfNone result (HasNoRun false (seen places.entry).bits count) }
 {
     let len = places.len();
     let mut start = 0;
     while count <= len - start {
-        let end = start + count;
-        match places.into_part(start..end).last_one() {
+        match places.into_part(start..start + count).last_one() {
             Some(taken) => start += taken + 1,
-            None => return Some(start..end),
+            None => return Some(start),
         }
     }
     None
@@ -45,9 +42,9 @@ pub fn take<T: BitStore, O: SliceOrder>(
     ensures full { IfNone result (HasNoFit (seen_mut places.old).bits count) }
     ensures kept { IfNone result (places.new ≡ places.old) }
 {
-    let range = first_fit(places.as_ref(), count)?;
-    let (start, end) = (range.start, range.end);
-    places.edit_with(range, |piece| piece.fill(true));
+    let start = first_fit(places.as_ref(), count)?;
+    let end = start + count;
+    places.edit_with(start..end, |piece| piece.fill(true));
     Some(start..end)
 }
 

@@ -1,5 +1,5 @@
 use Rattle.std.proofs.Common.{◌≡◌, ◌≤◌, take}
-use Rattle.bitvec.specs.Cursors.{lender_of, writing}
+use Rattle.bitvec.specs.Cursors.{lender_of, limit_of, writing}
 use Rattle.bitvec.specs.Ranges.{ChangesOnly}
 use Rattle.bitstream.specs.Codes.{AreCodes}
 use Rattle.bitstream.proofs.codes.put_codes.Given as goal
@@ -10,4 +10,5 @@ invariant-loop-number l = record {
   order : (writing l.initial.writer).position ≤ (writing l.writer).position;
   outside : ChangesOnly (writing l.initial.writer).position (writing l.writer).position (writing l.initial.writer).bits (writing l.writer).bits;
   name : lender_of l.writer ≡ lender_of l.initial.writer;
+  limit : limit_of l.writer ≡ limit_of l.initial.writer;
 }

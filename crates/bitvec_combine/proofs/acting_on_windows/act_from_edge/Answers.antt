@@ -40,7 +40,7 @@ returns-then-passed-from-clause-done g c =
     let source = div-add-mod' c.args.from.start b in
     let edge = c.requires.edge in
     elim c.then-passed-from.branch [
-      | then-passed-from-via-then-passed-from w ↦ elements-all g.A.Act.Done (width_some _ g.met.C.Elem.BitStore.width_law) c.requires.met edge (sym c.whole_bits-passed.ensures ∙ w.if-passed-from.true) done
+      | then-passed-from-via-then-passed-from w ↦ elements-all g.A.Act.Done (width_some _ g.met.C.Elem.BitStore.width_law) c.requires.met edge (sym c.whole_bits-passed.ensures.value ∙ w.if-passed-from.true) done
       | then-passed-from-via-else-passed-from+then-stops w ↦ beside-stop g.C.CellsRead.numbers g.A.Act.Done g.met.A.Act.stop_law _ c.requires.met (omega arith) (omega arith) refl
           (whole_fits b c.args.from.len (c.args.from.len / b) (omega arith)) (sym w.stops.ensures ∙ w.if-stops.true) done
     ]
@@ -65,7 +65,7 @@ act_on_part-requires-clause-from g c =
     let below = mod_below from.len b some in
     let place : (from.start + passed) / b ≡ from.start / b + count = add-mul-div_right from.start count some in
     let last = rw (c.of-stretch.ensures, ← place) at c.act_in_spans-last.ensures.carried (sym c.stops.ensures ∙ c.if-stops.false) in
-    rw (c.after.ensures, c.whole_bits-passed.ensures, c.act_in_spans-last.ensures.right.numbers) (record {
+    rw (c.after.ensures, c.whole_bits-passed.ensures.value, c.act_in_spans-last.ensures.right.numbers) (record {
       inside = HasWindow-part (window_after passed from) c.requires.met.beside (omega arith) (omega arith);
       some = omega arith;
       bound = omega arith;
@@ -91,7 +91,7 @@ returns-clause-done g c =
     rw (← beside-join b g.O.BitOrder.at (g.D.CellsRead.numbers c.args.right.now) (elements_window_from b (from.start / b) (from.start % b) count) (window_after passed from) from
     to.len (to.len - passed) met.beside (omega arith) (omega arith) (omega arith) (omega arith))
     (g.met.A.Act.join_law _ _ _ _ _ _ _ _ _ _ _ _ met.window cut (rw c.of-stretch.ensures at c.act_in_spans-last.ensures.done)
-    (rw (c.after.ensures, c.of-stretch.ensures, c.whole_bits-passed.ensures, c.act_in_spans-last.ensures.right.numbers, long, first) at c.act_on_part.ensures.done))
+    (rw (c.after.ensures, c.of-stretch.ensures, c.whole_bits-passed.ensures.value, c.act_in_spans-last.ensures.right.numbers, long, first) at c.act_on_part.ensures.done))
 
 pub returns-clause-right : goal.returns-clause-right
 returns-clause-right g c =
@@ -99,7 +99,7 @@ returns-clause-right g c =
     let count : ℕ = c.args.from.len / b in
     let all = touched-elements b c.args.from.start c.args.from.len count g.P.Phases.equal (width_some _ g.met.C.Elem.BitStore.width_law) c.requires.phases (whole_fits b c.args.from.len count (omega arith)) in
     let some = rw c.of-stretch.ensures at c.act_in_spans-last.ensures.right in
-    let rest = rw (c.after.ensures, c.whole_bits-passed.ensures) at c.act_on_part.ensures.right in
+    let rest = rw (c.after.ensures, c.whole_bits-passed.ensures.value) at c.act_on_part.ensures.right in
     record { numbers = rest.numbers ∙ some.numbers; borrow = rest.borrow ∙ some.borrow; loads = omega arith; stores = rest.stores ∙ some.stores }
 
 pub act_on_part-requires-clause-part : goal.act_on_part-requires-clause-part
@@ -108,4 +108,4 @@ act_on_part-requires-clause-part g c =
     let left : 0 < c.args.from.len % b = let parts = div-add-mod' c.args.from.len b in omega arith in
     let inside = tail-inside {w = b} _ g.met.C.Elem.BitStore.width_law refl c.requires.met.window c.requires.met.lengths left in
     let bound = tail-bound _ _ _ _ (width_some _ g.met.C.Elem.BitStore.width_law) c.requires.edge c.requires.met.reach c.requires.met.lengths in
-    rw (c.of-stretch.ensures, c.whole_bits-passed.ensures) (record { element = rw (g.met.A.Act.kept_law _ _ _ _ _ _ _ c.act_in_spans-last.ensures.done) inside; order = omega arith; bound = bound })
+    rw (c.of-stretch.ensures, c.whole_bits-passed.ensures.value) (record { element = rw (g.met.A.Act.kept_law _ _ _ _ _ _ _ c.act_in_spans-last.ensures.done) inside; order = omega arith; bound = bound })

@@ -9,8 +9,7 @@ use Rattle.bitvec_words.specs.CombinedLaws.{Writes-both, combined-enough, combin
 use Rattle.bitvec_words.specs.FieldLaws.{list-parted}
 use Rattle.bitvec_words.specs.Operator.{operator}
 use Rattle.bitvec_combine.specs.CombineLaws.{combines-beside, touched-met, touched-passed}
-use Rattle.bitvec_words.proofs.CostLemmas.{costs-both, reads-most}
-use Rattle.bitvec_combine.proofs.CostLemmas.{costs-most}
+use Rattle.bitvec_words.proofs.CostLemmas.{costs-both, costs-most, reads-most}
 use Rattle.bitvec_combine.proofs.combining.combine.Goals as goal
 
 pub returns-then-met-eq0-clause-writes : goal.returns-then-met-eq0-clause-writes

@@ -2,8 +2,7 @@ use Rattle.std.proofs.Common.{ap, arith, false}
 use Rattle.bitvec_store.specs.WidthLaws.{width_some}
 use Rattle.bitvec_cells.specs.Cost.{read_loads}
 use Rattle.bitvec_cells.specs.CostLaws.{read_enough, store_enough, touched_read, touched_stored, write_enough}
-use Rattle.bitvec_words.proofs.CostLemmas.{costs-within, reads-most}
-use Rattle.bitvec_combine.proofs.CostLemmas.{costs-most, reads-within}
+use Rattle.bitvec_words.proofs.CostLemmas.{costs-most, costs-within, reads-most, reads-within}
 use Rattle.bitvec_passes.proofs.by_elements.elements_copy.Goals as goal
 
 pub returns-then-phase-clause-cost : goal.returns-then-phase-clause-cost

@@ -9,8 +9,7 @@ use Rattle.bitvec_cells.specs.CostLaws.{read_enough, store_enough, touched_bits,
 use Rattle.bitvec_words.specs.CombinedLaws.{Writes-both, combined-first}
 use Rattle.bitvec_words.specs.FieldLaws.{list-parted}
 use Rattle.bitvec_words.specs.Operator.{operator}
-use Rattle.bitvec_words.proofs.CostLemmas.{costs-within, reads-most}
-use Rattle.bitvec_combine.proofs.CostLemmas.{reads-within}
+use Rattle.bitvec_words.proofs.CostLemmas.{costs-within, reads-most, reads-within}
 use Rattle.bitvec_passes.proofs.by_elements.elements_op.Goals as goal
 
 pub returns-then-phase-clause-writes : goal.returns-then-phase-clause-writes

@@ -25,6 +25,6 @@ returns-then-by-gt0-clause-list g c =
     let before = c.requires.before in
     let below = mod_below (c.args.window.start - c.phase-skip.result) g.T.BitStore.BITS (width_some _ g.met.T.BitStore.width_law) in
     let to : Window = record { start = c.args.window.start - c.phase-by.result; len = c.args.window.len } in
-    let moved = amid-moved g.O.BitOrder.at _ to _ _ c.element-first.ensures c.touched-count.ensures c.requires c.if-by-gt0.true (omega arith) (omega arith) refl refl
+    let moved = amid-moved g.O.BitOrder.at _ to _ _ c.element-first.ensures c.touched-count.ensures.places c.requires c.if-by-gt0.true (omega arith) (omega arith) refl refl
     (rw c.new-cells.ensures.numbers at c.move_elements.ensures.writes) in
     search (rules, moved)

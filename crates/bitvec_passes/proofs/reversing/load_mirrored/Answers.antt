@@ -10,7 +10,7 @@ use Rattle.bitvec_base.specs.WritesLaws.{HasWindow-kept, Writes-holds, Writes-is
 use Rattle.bitvec_words.specs.FieldLaws.{Writes-no_element, element_of}
 use Rattle.bitvec_words.specs.Elements.{elements_window}
 use Rattle.bitvec_words.specs.WholeLaws.{list-empty}
-use Rattle.bitvec_passes.proofs.MirroredLemmas.{held-amid, held-room, held-some, last-has, mirrored-element, mirrored-window, touched-beside, touched-has, touched-places, touched-window}
+use Rattle.bitvec_passes.proofs.MirroredLemmas.{held-amid, held-room, held-some, last-has, mirrored-element, mirrored-window, touched-beside, touched-has, touched-window}
 use Rattle.bitvec_passes.specs.Ends.{HoldsBeside}
 use Rattle.bitvec_passes.proofs.reversing.load_mirrored.Goals as goal
 
@@ -42,7 +42,7 @@ loop-step-init g c =
     let held = c.args.held.now in let window = c.args.window in
     let most = length held in
     let first = c.element-first.result in let count = c.touched-count.result in
-    let inside = touched-beside window.start (width_some _ g.met.C.Elem.BitStore.width_law) c.requires.some c.touched-count.ensures c.requires.held in
+    let inside = touched-beside window.start (width_some _ g.met.C.Elem.BitStore.width_law) c.requires.some c.touched-count.ensures.places c.requires.held in
     let room = held-room b (map value held) (most - 1 - count) count most (omega arith) (length-map held value) c.requires.held.fits in
     let none : Window = record { start = 0; len = 0 } in
     record {
@@ -61,8 +61,8 @@ loop-step-preserved g c =
     let most = length held in
     let some = width_some _ g.met.C.Elem.BitStore.width_law in
     let first = c.element-first.result in let count = c.touched-count.result in
-    let touched = touched-window some c.requires.some c.element-first.ensures c.touched-count.ensures in
-    let inside = touched-beside window.start some c.requires.some c.touched-count.ensures c.requires.held in
+    let touched = touched-window some c.requires.some c.element-first.ensures c.touched-count.ensures.places in
+    let inside = touched-beside window.start some c.requires.some c.touched-count.ensures.places c.requires.held in
     let room = held-room b (map value held) (most - 1 - count) count most (omega arith) (length-map held value) c.requires.held.fits in
     let step = c.loop-step.step in
     let next : ℕ = first + (count - (step + 1)) in
@@ -87,8 +87,8 @@ returns-clause-mirrors g c =
     let some = width_some _ g.met.C.Elem.BitStore.width_law in
     let first = c.element-first.result in let count = c.touched-count.result in
     let positive = held-some most c.requires.held c.requires.some in
-    let touched = touched-window some c.requires.some c.element-first.ensures c.touched-count.ensures in
-    let inside = touched-beside window.start some c.requires.some c.touched-count.ensures c.requires.held in
+    let touched = touched-window some c.requires.some c.element-first.ensures c.touched-count.ensures.places in
+    let inside = touched-beside window.start some c.requires.some c.touched-count.ensures.places c.requires.held in
     let room = held-room b (map value held) (most - 1 - count) count most (omega arith) (length-map held value) c.requires.held.fits in
     let place : first * b + c.phase-skip.result ≡ window.start = rw (c.element-first.ensures, c.phase-skip.ensures) (div-add-mod' window.start b) in
     let below = mod_below window.start b some in
@@ -110,16 +110,16 @@ returns-clause-mirrors g c =
 pub returns-clause-reads : goal.returns-clause-reads
 returns-clause-reads g c =
     let all : c.loop-step.step ≡ c.touched-count.result = omega arith in
-    rw (← touched-places _ _ _ (width_some _ g.met.C.Elem.BitStore.width_law) c.requires.some, sym c.touched-count.ensures, sym all) c.loop-step.invariant.reads
+    rw (sym c.touched-count.ensures.touched, sym all) c.loop-step.invariant.reads
 
 pub bounds-held-from : goal.bounds-held-from
-bounds-held-from g c = let has = has-places g.met.C.Elem.BitStore.width_law c.requires.window c.requires.some c.element-first.ensures c.touched-count.ensures c.requires.held in omega arith
+bounds-held-from g c = let has = has-places g.met.C.Elem.BitStore.width_law c.requires.window c.requires.some c.element-first.ensures c.touched-count.ensures.places c.requires.held in omega arith
 
 pub load-requires : goal.load-requires
-load-requires g c = let has = has-places g.met.C.Elem.BitStore.width_law c.requires.window c.requires.some c.element-first.ensures c.touched-count.ensures c.requires.held in rw c.loop-step.invariant.reads.numbers (omega arith)
+load-requires g c = let has = has-places g.met.C.Elem.BitStore.width_law c.requires.window c.requires.some c.element-first.ensures c.touched-count.ensures.places c.requires.held in rw c.loop-step.invariant.reads.numbers (omega arith)
 
 pub bits_of-room-requires : goal.bits_of-room-requires
-bits_of-room-requires g c = let has = has-places g.met.C.Elem.BitStore.width_law c.requires.window c.requires.some c.element-first.ensures c.touched-count.ensures c.requires.held in omega arith
+bits_of-room-requires g c = let has = has-places g.met.C.Elem.BitStore.width_law c.requires.window c.requires.some c.element-first.ensures c.touched-count.ensures.places c.requires.held in omega arith
 
 pub overflow_sub-result : goal.overflow_sub-result
-overflow_sub-result g c = let has = has-places g.met.C.Elem.BitStore.width_law c.requires.window c.requires.some c.element-first.ensures c.touched-count.ensures c.requires.held in let below = mod_below c.args.window.start g.C.Elem.BitStore.BITS (width_some _ g.met.C.Elem.BitStore.width_law) in omega arith
+overflow_sub-result g c = let has = has-places g.met.C.Elem.BitStore.width_law c.requires.window c.requires.some c.element-first.ensures c.touched-count.ensures.places c.requires.held in let below = mod_below c.args.window.start g.C.Elem.BitStore.BITS (width_some _ g.met.C.Elem.BitStore.width_law) in omega arith

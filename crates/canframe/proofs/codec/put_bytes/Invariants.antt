@@ -1,5 +1,5 @@
 use Rattle.std.proofs.Common.{◌≡◌, ℕ, ◌+◌, ◌*◌, length}
-use Rattle.bitvec.specs.Cursors.{elements_of, lender_of, writing}
+use Rattle.bitvec.specs.Cursors.{elements_of, lender_of, limit_of, writing}
 use Rattle.bitvec.specs.Ranges.{ChangesOnly}
 use Rattle.canframe.specs.Frames.{HasBytes, HasHeader}
 use Rattle.canframe.proofs.codec.put_bytes.Given as goal
@@ -12,4 +12,5 @@ invariant-loop-byte l = record {
   outside : ChangesOnly 19 (writing l.writer).position (writing l.initial.writer).bits (writing l.writer).bits;
   len : length (elements_of l.writer) ≡ length (elements_of l.initial.writer);
   name : lender_of l.writer ≡ lender_of l.initial.writer;
+  limit : limit_of l.writer ≡ limit_of l.initial.writer;
 }

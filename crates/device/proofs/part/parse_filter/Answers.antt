@@ -2,7 +2,8 @@ use Rattle.std.proofs.Common.{◌≡◌, ℕ, ◌+◌, ◌<◌, None, Some, map,
 use Rattle.std.specs.Prelude.{IsSomeAnd}
 use Rattle.std.proofs.lemmas.Grind.{common_steps}
 use Rattle.std.proofs.lemmas.List.{get_or-map, length-map}
-use Rattle.device.specs.Numbers.{number_of, numbers_of, with_number}
+use Rattle.numerals.specs.Numerals.{number_of}
+use Rattle.device.specs.Numbers.{numbers_of, with_number}
 use Rattle.device.specs.Parts.{IsFilter, MakesFilter}
 use Rattle.device.proofs.FilterLaws.{filter-more, numbers_of-more, numbers_of-other}
 use Rattle.device.proofs.part.parse_filter.Goals as goal

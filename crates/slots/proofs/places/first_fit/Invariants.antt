@@ -1,13 +1,12 @@
-use Rattle.std.proofs.Common.{◌-◌, ◌≤◌}
+use Rattle.std.proofs.Common.{◌-◌, ◌≤◌, false}
+use Rattle.bitvec.specs.Fits.{HasNoRunBefore}
 use Rattle.bitvec.specs.Views.{seen}
-use Rattle.slots.specs.Places.{HasNoFitBefore}
 use Rattle.slots.proofs.places.first_fit.Given as goal
 
--- no stretch that begins before `start` is free
 abbrev pub invariant-loop-start : goal.invariant-loop-start
 invariant-loop-start g l = record {
   inside : l.start ≤ l.len;
-  before : HasNoFitBefore (seen l.places).bits l.count l.start;
+  before : HasNoRunBefore false (seen l.places).bits l.count l.start;
 }
 
 abbrev pub decreases-loop-start : goal.decreases-loop-start

@@ -3,6 +3,7 @@ use Rattle.std.proofs.Common.{◌≡◌, ℕ, ◌+◌, ◌-◌, ◌%◌, ◌^◌
 use Rattle.bitvec_field.specs.IntegersLaws.{remainder-narrow}
 use Rattle.bitvec_in_place.specs.ChangesLaws.{changes-numbered}
 use Rattle.bitvec_in_place.specs.Cursors.{writing}
+use Rattle.bitvec_in_place.specs.MovedLaws.{length-bits_of}
 use Rattle.bitvec_in_place.specs.NumbersLaws.{number-numbered}
 use Rattle.bitvec_in_place.specs.Ranges.{ChangesOnly, number_in}
 use Rattle.bitvec_store.specs.WidthLaws.{width_some}
@@ -16,6 +17,8 @@ returns-clause-number g c =
     let from = (writing c.args.self.now).position in
     let w = c.args.width in
     let width : from + w - from ≡ w = omega arith in
+    let limited = c.args.self.now.limited in
+    let whole = length-bits_of g.T.BitStore.BITS g.O.BitOrder.at g.T.BitStore.value c.args.self.now.elements.now in
     ap (λ (l : List Bool). number_in high high b l from (from + w)) c.store_plain.ensures.bits
     ∙ number-numbered high high b old from (from + w) (c.args.number % 2 ^ 64) (width_some b g.met.T.BitStore.width_law) (omega arith) (omega arith)
     ∙ ap (λ (n : ℕ). c.args.number % 2 ^ 64 % 2 ^ n) width
@@ -27,4 +30,6 @@ returns-clause-outside g c =
     let old = (writing c.args.self.now).bits in
     let from = (writing c.args.self.now).position in
     let to = from + c.args.width in
-    subst (ChangesOnly from to old) (sym c.store_plain.ensures.bits) (changes-numbered old from to (omega arith) c.requires.room high high g.T.BitStore.BITS (c.args.number % 2 ^ 64))
+    let limited = c.args.self.now.limited in
+    let whole = length-bits_of g.T.BitStore.BITS g.O.BitOrder.at g.T.BitStore.value c.args.self.now.elements.now in
+    subst (ChangesOnly from to old) (sym c.store_plain.ensures.bits) (changes-numbered old from to (omega arith) (omega arith) high high g.T.BitStore.BITS (c.args.number % 2 ^ 64))

@@ -2,7 +2,7 @@ use Rattle.std.proofs.Common.{◌≤◌, ◌+◌, ℕ, arith, refl}
 use Rattle.std.proofs.lemmas.List.Sums.{sum_by-take-drop}
 use Rattle.bitvec_in_place.specs.ChangesLaws.{changes-then}
 use Rattle.bitvec_in_place.specs.MovedLaws.{length-bits_of}
-use Rattle.bitvec_in_place.proofs.Rows.{row-more, row_len-more, width-fits}
+use Rattle.bitvec_in_place.proofs.RowLemmas.{row-more, row_len-more, width-fits}
 use Rattle.bitvec_in_place.specs.Rows.{row_len}
 use Rattle.bitvec_in_place.proofs.writer.BitWriter.put_row.Goals as goal
 
@@ -20,6 +20,7 @@ loop-field-preserved g c =
       position = omega arith;
       len = cc;
       name = cc;
+      limit = cc;
     }
 
 pub put_next-requires-clause-bound : goal.put_next-requires-clause-bound

@@ -8,4 +8,4 @@ pub from_parts-requires-clause-fits : goal.from_parts-requires-clause-fits
 from_parts-requires-clause-fits g c = rw (c.in_ok-elements.ensures.len, c.as_slice.ensures.len) c.args.self.now.bounded
 
 pub returns : goal.returns
-returns g c = record { cases = rw (c.in_ok-elements.ensures.items, c.as_slice.ensures.value) at c.from_parts.ensures.shows }
+returns g c = record { cases = (rw (c.in_ok-elements.ensures.items, c.as_slice.ensures.value) at c.from_parts.ensures.shows, c.from_parts.ensures.room) }

@@ -1,0 +1,6 @@
+use Rattle.std.proofs.Common.{arith}
+use Rattle.bitvec.specs.Laws.{found}
+use Rattle.bitvec_view_examples.proofs.first_runs.first_run.Goals as goal
+
+pub overflow_add-start-in-Some-2 : goal.overflow_add-start-in-Some-2
+overflow_add-start-in-Some-2 g c = grind (arith, found)

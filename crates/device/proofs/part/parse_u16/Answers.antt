@@ -1,6 +1,0 @@
-use Rattle.std.proofs.Common.{◌∙◌}
-use Rattle.device.proofs.NumberLaws.{number_of-parse}
-use Rattle.device.proofs.part.parse_u16.Goals as goal
-
-pub returns : goal.returns
-returns c = c.ok.ensures.value ∙ number_of-parse 16 c.args.word.now c.parse.result c.parse.ensures.value.0

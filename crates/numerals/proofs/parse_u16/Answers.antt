@@ -1,0 +1,6 @@
+use Rattle.std.proofs.Common.{◌∙◌}
+use Rattle.numerals.proofs.NumberLaws.{number_of-parse}
+use Rattle.numerals.proofs.parse_u16.Goals as goal
+
+pub returns : goal.returns
+returns c = c.ok.ensures.value ∙ number_of-parse 16 c.args.word.now c.parse.result c.parse.ensures.value.0
