@@ -4,6 +4,7 @@ import re
 import clauses
 import table
 from clauses import Strange, Term, match, pattern
+from negation import failing
 from tokens import Unknown, is_mark, is_word, solid, text
 
 COUNTS = [(pattern(form), rust) for form, rust in table.COUNTS]
@@ -11,6 +12,9 @@ TERMS = [(pattern(form), rust, words) for form, rust, words in table.TERMS]
 CONDITIONS = [(pattern(form), rust, words) for form, rust, words in table.CONDITIONS]
 # The rows of the table by which something was written.
 used = set()
+# The parameters that a message shows as they are, and those of which it shows the window. Of others, as slices, it shows the length.
+SHOWN = ("u32", "u64", "u128", "usize", "Range<usize>", "Window", "Part", "Rest")
+VIEWS = ("BitSlice<", "BitSliceMut<")
 WIDE = {"≤": "<=", "<": "<", "≡": "=="}
 
 
@@ -48,7 +52,7 @@ class Conditions:
                     used.add((form, rust))
                     wide = term.head in WIDE and rust.startswith("{a}") and self.is_wide(term)
                     test = self.filled(rust, found, wide)
-                    return None if test == "true" else Test(test, self.said(words, found), list(self.values.items()))
+                    return Test(test, self.said(words, found), list(self.values.items()))
         except Strange:
             pass
         raise Unknown(self.file, clause.line, f"no line of the table tests `{clause.words}`, which {self.name} requires")
@@ -58,6 +62,7 @@ class Conditions:
 
     def filled(self, rust, found, wide):
         rust = re.sub(r"#(\w+)", lambda it: self.count(found[it[1]]), rust)
+        rust = re.sub(r"(\{(\w+)\}) as u128", lambda it: it[1] if self.kinds.get(str(found[it[2]])) == "u128" else f"u128::from({it[1]})", rust)
         return re.sub(r"\{(\w+)\}", lambda it: self.trait if it[1] == "trait" else self.number(found[it[1]], wide), rust)
 
     def said(self, words, found):
@@ -123,7 +128,10 @@ class Conditions:
         if base not in self.kinds and base != "self":
             raise Strange()
         rust = ".".join([self.names.get(base, base)] + name.split(".")[1:])
-        if not re.fullmatch(r"[A-Z]\w?|&(mut )?[A-Z]", self.kinds.get(name, "").replace("&mut", "&mut ")) and name != "self":
+        kind = self.kinds.get(name, "")
+        if any(view in kind for view in VIEWS):
+            self.values[f"{name}.window"] = f"{rust}.window()"
+        elif name not in self.kinds and name != "self" or re.sub(r"^&(mut ?)?", "", kind) in SHOWN:
             self.values[name] = rust
         return f"({rust} as usize)" if self.kinds.get(name) == "u32" else rust
 
@@ -154,21 +162,8 @@ def tests_of(item, stated, eraser, trait):
     return [test for test in (made.test(clause) for clause in stated.requires()) if test]
 
 
-def closures_of(stated):
-    """The closures of a function that have to leave a view in its place: the name of each, its type, and what wraps it."""
-    found = []
-    for clause in stated.requires():
-        words = clause.words
-        if wrap := table.STAYS.get(words.split()[0]):
-            kind, name = re.search(r"(\w)\.pre (\w+)\)", words) and re.search(r"\((\w)\.pre (\w+)\)", words).groups() or re.search(r"(\w)\.step (\w+)", words).groups()
-            view = "Self::View" if words.split()[1].startswith("Self.View.") else "Self"
-            found.append((name, kind, f"let mut {name} = crate::conditions::{wrap}::<T, O, {view}, _, _>({name});"))
-    return found
-
-
 def written(test, name, indent):
     """A test as Rust."""
-    begin = "cfg!(debug_assertions) && !" if "unchecked" in name else "!"
     values = ", ".join(f'("{label}", &{rust})' for label, rust in test.values)
-    return (f"{indent}if {begin}({test.rust}) {{\n"
+    return (f"{indent}if {failing(test.rust)} {{\n"
             f'{indent}    crate::conditions::fails("{name}", "{test.words}", &[{values}]);\n{indent}}}\n')

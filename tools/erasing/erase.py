@@ -2,9 +2,16 @@
 writes anew, and stops with the file and the line at another."""
 import re
 
+import closures
 import contracts
+import laws
 import narrowing
-from tokens import Group, Token, Unknown, is_group, is_mark, is_trivia, is_word, solid, text, word
+import renaming
+import told
+import widening
+from items import parsed
+from table import MET
+from tokens import Group, Token, Unknown, is_group, is_mark, is_trivia, is_word, solid, text, tree, word
 
 # Paths of Rattle's std that are another module here, and parts of std that are the same in Rust's `core`.
 MOVED = {("std", "alloc"): "crate::memory", ("std", "simd", "prelude"): "crate::vectors"}
@@ -24,6 +31,8 @@ PROOF_IMPLS = ("Model",)
 ANSWERS = {"Extend": ("crate::memory::TryExtend", "extend", "try_extend")}
 # Methods of std that Rust has only from a newer version on: the trait that has each here, and its name there.
 NEWER = {"div_ceil": ("RoundUp", "div_up"), "next_multiple_of": ("RoundUp", "multiple_up")}
+# Methods that are right where a `usize` has 64 bits, as Rattle's has, by their trait and type. Elsewhere those of the trait stand.
+OF_64_BITS = {("BitStore", "usize"): ("load_word", "store_word")}
 # Type parameters that have a default in Rust.
 DEFAULTS = {("BitVec", "A"): "crate::memory::Global"}
 
@@ -36,6 +45,9 @@ class Eraser:
     def __init__(self, file, home, paths, tester, contracts=None):
         self.file, self.home, self.paths, self.tester, self.contracts = file, home, paths, tester, contracts
         self.macros, self.newer, self.uses_vec, self.words = set(), set(), False, {}
+        # What stands in the private trait of the trait that is written, whether this file calls such, the names of all such traits,
+        # and the arguments behind which a call passes the value that only the library can make.
+        self.own, self.calls_untested, self.traits_untested, self.asked = [], False, [], set()
 
     def refuse(self, line, what):
         raise Unknown(self.file, line, what)
@@ -48,7 +60,7 @@ class Eraser:
         while at < len(nodes):
             node = nodes[at]
             if isinstance(node, Group):
-                out.append(Group(node.open, self.code(node.inner), node.line, node.end))
+                out.append(Group(node.open, self.code(node.inner) + self.met(node), node.line, node.end))
             elif is_word(node, "let") and (end := self.let_else(nodes, at)):
                 out.extend(self.code(self.matched(nodes[at + 1:end])))
                 at = end
@@ -108,11 +120,27 @@ class Eraser:
                 return at + found[1]
         in_path = len(out) > 2 and is_mark(out[-1], ":") and is_mark(out[-2], ":")
         if (is_field or in_path) and (group := self.arguments(nodes, at)):
-            name = self.tester.inner_name(node.text, len(self.pieces(group.inner)), out[-3] if in_path else None)
+            count, leads = len(self.pieces(group.inner)), out[-3] if in_path else None
+            name, asks = self.tester.inner_name(renaming.called(node.text, count, leads, self.core == "std"), count, leads)
+            self.asked |= {id(group)} if asks else set()
+            self.calls_untested |= name in self.tester.known.moved
             out.append(word(name, node.line))
             return at + 1
         out.append(node)
         return at + 1
+
+    def met(self, group):
+        """What a call passes behind its arguments, if it is one that only the library makes."""
+        if id(group) not in self.asked:
+            return []
+        self.asked.discard(id(group))
+        return [word(self.behind(group.inner) + MET)]
+
+    @staticmethod
+    def behind(nodes):
+        """What stands between arguments or parameters and one more."""
+        words = solid(nodes)
+        return ", " if words and not is_mark(words[-1], ",") else ""
 
     def arguments(self, nodes, at):
         """The arguments of the call of a word, also behind a turbofish; None where it isn't called."""
@@ -137,7 +165,7 @@ class Eraser:
             if words[1] not in self.kept:
                 self.refuse(nodes[at].line, f"std::{words[1]} isn't known")
             return self.core, 1
-        if words[0] == "crate" and leads:
+        if words[0] == "crate" and leads and words[1:3] not in widening.NAMES:
             return self.home, 1
         if leads and words[0] in self.paths:
             return self.paths[words[0]], 1
@@ -223,7 +251,7 @@ class Eraser:
         """What stands before an item's own words: its documents, with the contract where it is told, its attributes and more of
         these, and who may name it."""
         indent = "\n" + item.lead.rpartition("\n")[2]
-        parts = self.documents(item) + (self.contracts.lines(item, self.words) if contract and self.contracts else [])
+        parts = self.documents(item) + (laws.lines(item.name) if item.kind == "trait" else []) + (self.contracts.lines(item, self.words) if contract and self.contracts else [])
         parts += [it for it in map(self.attribute, item.attributes) if it] + list(more)
         return item.lead + "".join(part + indent for part in parts) + self.public(item)
 
@@ -236,6 +264,8 @@ class Eraser:
                 line, is_code = line + ("" if is_code else "ignore"), not is_code
             elif is_code:
                 line = line.replace("assert!(rt; ", "assert!(").replace("rt.alloc()", "Global").replace(".clone()?", ".clone()")
+                line = renaming.in_documents(line)
+            line = renaming.in_links(line)
             made.append(self.linked(line))
         return made
 
@@ -271,7 +301,9 @@ class Eraser:
         path = text(solid(item.head)).replace(" ", "")
         if path.startswith(("thiserror::", "std::marker::Model")):
             return None
-        return self.before(item) + "use " + text(self.code(item.head)).lstrip()
+        # A crate passes on more than the package takes.
+        allowed = ["#[allow(unused_imports)]"] if item.public else []
+        return self.before(item, allowed) + "use " + text(self.code(item.head)).lstrip()
 
     def write_mod(self, item, _outer):
         if item.items is None:
@@ -385,7 +417,32 @@ class Eraser:
         name, colon, above = self.head_of_trait(head)
         if "Sized" not in above.split(" + "):
             above = "Sized" + (" + " + above if above else "")
-        return self.before(item) + f"trait{name}: {above} " + self.braced(item)
+        self.own = []
+        if self.tester.known.is_open(item):
+            item.show()
+        written = self.before(item) + f"trait{name}: {above} " + self.braced(item)
+        if self.tester.known.is_open(item):
+            self.refuse_open(item, written)
+        return written + self.written_untested(item, name)
+
+    def refuse_open(self, item, written):
+        """Stops where a hidden method of a trait that users reach, as it is written, asks for nothing that only the library has."""
+        for made in parsed(tree(written, self.file), self.file)[0].items:
+            if made.kind == "fn" and made.hidden and not re.search(r"\b(Sealed|Met)\b", text(made.parameters.inner)):
+                self.refuse(item.line, f"users reach the trait {item.name}, whose hidden method {made.name} asks for nothing that only the library has")
+
+    def written_untested(self, item, name):
+        """The private trait of what only the library calls of a trait; it is nothing where there is no such."""
+        if not self.own:
+            return ""
+        private = f"{item.name}Untested"
+        self.traits_untested.append(private)
+        self.calls_untested = True
+        parameters = name.strip().removeprefix(item.name).strip()
+        trait = re.sub(r":[^,>]*", "", name).strip()
+        generics = f"<{parameters[1:-1]}, Itself: {trait}>" if parameters else f"<Itself: {trait}>"
+        return (f"\n\n/// What only the library calls of [`{item.name}`]: it tests nothing.\npub(crate) trait {private}{parameters}: {trait} {{"
+                + "".join(self.own) + f"\n}}\n\nimpl{generics} {private}{re.sub(r':[^,>]*', '', parameters)} for Itself {{}}")
 
     @staticmethod
     def head_of_trait(head):
@@ -447,12 +504,16 @@ class Eraser:
 
     def write_fn(self, item, outer):
         self.answered(item, outer)
+        if getattr(outer, "kind", None) == "impl" and item.name in OF_64_BITS.get(self.added_to(outer), ()):
+            item.attributes.append(Group("[", tree('cfg(target_pointer_width = "64")', ""), 0, 0))
         if item.body and (names := narrowing.accessors(item, self.pieces(item.parameters.inner))):
             item.body = Group("{", narrowing.narrowed(item.body.inner, names), item.body.line, item.body.end)
+        if item.body and (names := closures.edits_of(item)):
+            item.body = Group("{", closures.seen(item.body.inner, names, self.file), item.body.line, item.body.end)
         return self.tester.function(self, item, outer)
 
-    def signature(self, item, name):
-        """A function's words from `fn` up to its body."""
+    def signature(self, item, name, asks=False):
+        """A function's words from `fn` up to its body. `asks` says whether it takes the value that only the library can make."""
         writers = self.writers(item)
         kept = [piece for piece in self.pieces(item.generics[1:-1]) if text(solid(piece)).split(":")[0] not in writers]
         generics = item.generics if not writers else [word("<")] * bool(kept)
@@ -463,7 +524,8 @@ class Eraser:
             generics += [word(">")]
         elif writers:
             generics = []
-        parameters, after = str(Group("(", self.code(self.bounds(item.parameters.inner)), 0, 0)), self.header(item.after)
+        inner = self.code(self.bounds(item.parameters.inner)) + [word(f"{self.behind(item.parameters.inner)}_: {MET}")] * asks
+        parameters, after = str(Group("(", inner, 0, 0)), self.header(item.after)
         for writer in writers:
             parameters = parameters.replace(f"Formatter<{writer}>", "Formatter<'_>")
         words = "".join(f"{node} " for node in item.before if not is_word(node, "final"))

@@ -55,6 +55,10 @@ class Item:
     def hidden(self):
         return self.has_attribute("doc(hidden)")
 
+    def show(self):
+        """Takes `doc(hidden)` from it."""
+        self.attributes = [group for group in self.attributes if text(solid(group.inner)).replace(" ", "") != "doc(hidden)"]
+
     @property
     def is_public(self):
         return text(solid(self.public)) == "pub"

@@ -1,27 +1,26 @@
 """Loops over whole elements, so written that rustc needs no test of an index in each pass.
 
-The kit's compiler knows by the proof that an index lies in the memory; rustc tests each. Three forms of loops
+The kit's compiler knows by the proof that an index lies in the memory; rustc tests each. Two forms of loops
 
     for step in 0..count {
         .. cells.load(first + step) ..
         .. act.whole::<O>(left, first + step, other); ..
-        .. f::<O, C>(cells, first + step * block, ..) ..
     }
 
-stay within `count` elements, or blocks of elements, of an accessor, if they use it in no other way. So the loop goes over an
+stay within `count` elements of an accessor, if they use it in no other way. So the loop goes over an
 accessor of just these, whose length rustc knows, where `cells` can give one, and is as it was else. A loop that acts by
 `whole` is handed to the act as a closure that makes the elements, since only the act knows which accessors it takes."""
 import dataclasses
 
 from tokens import Group, Token, is_group, is_mark, is_word, solid, text
 
-READS, WRITES, WORDS = ("load", "load_word"), ("store", "store_word"), ("load_word", "store_word")
+READS, WRITES = ("load",), ("store",)
 
 # How an act goes over whole elements: of an accessor of just these.
 WHOLES = """
     #[inline(always)]
     fn wholes<O: BitOrder>(&mut self, cells: &mut C, first: usize, count: usize, mut other: impl FnMut(usize) -> C::Elem) {
-        match cells.%s(first, count) {
+        match cells.%s(first, count, crate::conditions::Met) {
             Some(mut cells) => (0..count).for_each(|step| Act::<crate::proved::cells::%s<'_, C::Elem>>::whole::<O>(self, &mut cells, step, other(step))),
             None => (0..count).for_each(|step| self.whole::<O>(cells, first + step, other(step))),
         }
@@ -33,14 +32,7 @@ ADDED = {
     /// An accessor of `count` elements from the element `first` on, if this one can give it.
     #[doc(hidden)]
     #[inline(always)]
-    fn narrowed(&mut self, _first: usize, _count: usize) -> Option<crate::proved::cells::Shared<'_, Self::Elem>> {
-        None
-    }
-
-    /// Accessors of `count` blocks of `size` elements from the element `first` on, if this one can give them.
-    #[doc(hidden)]
-    #[inline(always)]
-    fn blocks(&mut self, _first: usize, _count: usize, _size: usize) -> Option<crate::blocks::Blocks<'_, Self::Elem>> {
+    fn narrowed(&mut self, _first: usize, _count: usize, _: crate::conditions::Met) -> Option<crate::proved::cells::Shared<'_, Self::Elem>> {
         None
     }
 """,
@@ -48,35 +40,25 @@ ADDED = {
     /// An accessor of `count` elements from the element `first` on, if this one can give it.
     #[doc(hidden)]
     #[inline(always)]
-    fn narrowed_mut(&mut self, _first: usize, _count: usize) -> Option<crate::proved::cells::Exclusive<'_, Self::Elem>> {
+    fn narrowed_mut(&mut self, _first: usize, _count: usize, _: crate::conditions::Met) -> Option<crate::proved::cells::Exclusive<'_, Self::Elem>> {
         None
     }
 """,
     ("CellsRead", "Shared"): """
     #[inline(always)]
-    fn narrowed(&mut self, first: usize, count: usize) -> Option<Shared<'_, T>> {
+    fn narrowed(&mut self, first: usize, count: usize, _: crate::conditions::Met) -> Option<Shared<'_, T>> {
         Some(Shared::new(&self.cells[first..first + count]))
-    }
-
-    #[inline(always)]
-    fn blocks(&mut self, first: usize, count: usize, size: usize) -> Option<crate::blocks::Blocks<'_, T>> {
-        Some(crate::blocks::Blocks::new(&self.cells[first..first + count * size], size))
     }
 """,
     ("CellsRead", "Exclusive"): """
     #[inline(always)]
-    fn narrowed(&mut self, first: usize, count: usize) -> Option<crate::proved::cells::Shared<'_, T>> {
+    fn narrowed(&mut self, first: usize, count: usize, _: crate::conditions::Met) -> Option<crate::proved::cells::Shared<'_, T>> {
         Some(crate::proved::cells::Shared::new(&self.cells[first..first + count]))
-    }
-
-    #[inline(always)]
-    fn blocks(&mut self, first: usize, count: usize, size: usize) -> Option<crate::blocks::Blocks<'_, T>> {
-        Some(crate::blocks::Blocks::new(&self.cells[first..first + count * size], size))
     }
 """,
     ("Cells", "Exclusive"): """
     #[inline(always)]
-    fn narrowed_mut(&mut self, first: usize, count: usize) -> Option<Exclusive<'_, T>> {
+    fn narrowed_mut(&mut self, first: usize, count: usize, _: crate::conditions::Met) -> Option<Exclusive<'_, T>> {
         Some(Exclusive::new(&mut self.cells[first..first + count]))
     }
 """,
@@ -177,7 +159,7 @@ class Loop:
         elif heads:
             loop = [code(f"for {self.step} in 0..{self.count} "), Group("{", inner, 0, 0)]
         else:
-            return self.by_blocks(names)
+            return None
         if not heads:
             return loop
         return [code(f"if 0 < {self.count} {{ match ({', '.join(heads)},) {{ ({', '.join(binds)},) => {{ "), *loop, code(" } _ => "),
@@ -190,7 +172,7 @@ class Loop:
         group = next((k for k in range(at, len(inner)) if is_group(inner[k])), None) if at else None
         parts = cut(inner[group].inner) if group and is_mark(inner[group + 1], ";") else []
         place = placed(Group("(", parts[1], 0, 0), self.step) if len(parts) == 3 else None
-        if not place or place[1]:
+        if not place:
             return None
         call = [*inner[at - 2:at], Token("word", "wholes", 0), *inner[at + 1:group]]
         made = [*inner[:at - 2], code("let value = "), *solid(parts[2]), code(";"), *inner[group + 2:], code("    value\n")]
@@ -201,26 +183,10 @@ class Loop:
         another use of the accessor stands in it."""
         calls = []
         made = replaced(inner, name, self.step, calls)
-        if made is None or len({call[1:] for call in calls}) != 1:
+        if made is None or len({first for _, first in calls}) != 1:
             return None
-        (first, times), kinds = calls[0][1:], {kind for kind, _, _ in calls}
-        if any(kind in WORDS for kind in kinds) != bool(times):
-            return None
-        narrow = "narrowed_mut" if kinds & set(WRITES) else "narrowed"
-        return made, f"{name}.{narrow}({first}, {f'({self.count}) * {times}' if times else self.count})", f"Some(mut {name})"
-
-    def by_blocks(self, names):
-        """The loop over blocks, in which functions are handed an accessor of the block of a pass; None where it isn't of this form."""
-        found = {it.text for it in words_in(self.body.inner) if it.text in names}
-        if len(found) != 1:
-            return None
-        (name,), places = found, []
-        inner = in_blocks(self.body.inner, name, names[name], self.step, places)
-        if len(set(places)) != 1 or places[0] is None:
-            return None
-        first, size = places[0]
-        return [code(f"if let Some(each_block) = {name}.blocks({first}, {self.count}, {size}) {{ for ({self.step}, mut {name}) in each_block.enumerate() "),
-                Group("{", inner, 0, 0), code(" } else "), Group("{", [code(" "), *self.nodes, code(" ")], 0, 0)]
+        narrow = "narrowed_mut" if any(kind in WRITES for kind, _ in calls) else "narrowed"
+        return made, f"{name}.{narrow}({calls[0][1]}, {self.count}, crate::conditions::Met)", f"Some(mut {name})"
 
 
 def cut(nodes):
@@ -244,12 +210,11 @@ def replaced(nodes, name, step, calls):
             if len(call) < 4 or not is_mark(call[1], ".") or not is_word(call[2], *READS, *WRITES) or not is_group(call[3], "("):
                 return None
             place = placed(call[3], step)
-            rest = replaced(call[3].inner[place[2]:], name, step, calls) if place else None
+            rest = replaced(call[3].inner[place[1]:], name, step, calls) if place else None
             if rest is None:
                 return None
-            calls.append((call[2].text, *place[:2]))
-            index = step + (f" * {place[1]}" if place[1] else "")
-            made += [*call[:3], Group("(", [Token("word", index, 0), *rest], 0, 0)]
+            calls.append((call[2].text, place[0]))
+            made += [*call[:3], Group("(", [Token("word", step, 0), *rest], 0, 0)]
             at += 4
             continue
         if is_group(node):
@@ -263,43 +228,11 @@ def replaced(nodes, name, step, calls):
 
 
 def placed(group, step):
-    """The first element and the factor of an argument `first + step`, `first + step + 1` or `first + step * factor`, and where it ends."""
+    """The first element of an argument `first + step` or `first + step + 1`, and where it ends."""
     end = next((k for k, node in enumerate(group.inner) if is_mark(node, ",")), len(group.inner))
     first, *rest = text(solid(group.inner[:end])).split("+")
-    variable, _, factor = rest[0].partition("*") if rest else ("", "", "")
-    if variable != step or not first.replace(".", "").replace("_", "").isalnum() or factor and not factor.isidentifier():
+    if rest[:1] != [step] or not first.replace(".", "").replace("_", "").isalnum():
         return None
-    if len(rest) > 2 or rest[1:] and (factor or not rest[1].isdigit()):
+    if len(rest) > 2 or rest[1:] and not rest[1].isdigit():
         return None
-    return " + ".join([first, *rest[1:]]), factor, end
-
-
-def in_blocks(nodes, name, kind, step, places):
-    """The body of a loop whose calls of functions with the block of a pass take an accessor of that block, and all else as it is. `places` gets
-    the first element and the size of each block, and None for another use of the accessor."""
-    made, at = [], 0
-    while at < len(nodes):
-        node = nodes[at]
-        end = called(nodes, at) if is_word(node) else None
-        group = nodes[end] if end else None
-        comma = next((k for k, it in enumerate(group.inner) if is_mark(it, ",")), None) if group else None
-        place = placed(Group("(", group.inner[comma + 1:], 0, 0), step) if comma and text(solid(group.inner[:comma])) == name else None
-        if place and place[1]:
-            places.append(place[:2])
-            made += [Token("word", "_", 0) if is_word(it, kind) else it for it in nodes[at:end]]
-            made.append(Group("(", [code(f"&mut {name}, 0"), *group.inner[comma + 1 + place[2]:]], 0, 0))
-            at = end + 1
-            continue
-        if is_word(node, name):
-            places.append(None)
-        made.append(Group(node.open, in_blocks(node.inner, name, kind, step, places), node.line, node.end) if is_group(node) else node)
-        at += 1
-    return made
-
-
-def called(nodes, at):
-    """Where the arguments stand of a function that is called with types, `name::<..>(..)`; None where none is."""
-    if at + 3 >= len(nodes) or not (is_mark(nodes[at + 1], ":") and is_mark(nodes[at + 2], ":") and is_mark(nodes[at + 3], "<")):
-        return None
-    end = next((k for k in range(at, len(nodes)) if is_group(nodes[k])), None)
-    return end if end is not None and is_group(nodes[end], "(") and is_mark(nodes[end - 1], ">") else None
+    return " + ".join([first, *rest[1:]]), end

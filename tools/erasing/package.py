@@ -4,6 +4,10 @@ import pathlib
 import re
 import shutil
 
+import calls
+import imports as imports_of
+import native
+import renaming
 import table
 from contracts import Contracts, words_of
 from erase import Eraser
@@ -15,7 +19,9 @@ TOP = pathlib.Path(__file__).resolve().parents[2]
 HAND = TOP / "bindings/rust"
 # Names of what needs memory.
 MEMORY = ("Vec", "BitVec", "RepeatError")
-KEYWORDS = {"move": "moves"}
+KEYWORDS = {"move": "moves", "bitrecord": "record"}
+# The crate above `bitvec` that is a module of the package; it needs memory.
+RECORDS = "bitrecord"
 
 
 class Refused(Exception):
@@ -58,7 +64,7 @@ def sources(crate):
     found = {}
     for path in sorted(folder.rglob("*.rt")):
         name = str(path.relative_to(TOP))
-        found[path.relative_to(folder)] = (name, parsed(tree(path.read_text(), name), name))
+        found[path.relative_to(folder)] = (name, renaming.renamed(parsed(tree(path.read_text(), name), name)))
     if pathlib.Path("lib.rt") not in found:
         raise Refused(f"crates/{crate}/src has no lib.rt")
     return found
@@ -66,38 +72,42 @@ def sources(crate):
 
 class Package:
     def __init__(self, out):
-        self.out, self.crates = out, libraries()
+        self.out, self.crates = out, [*libraries(), RECORDS]
         self.parsed = {crate: sources(crate) for crate in self.crates}
         self.known = Everything()
-        self.paths = {crate: f"crate::proved::{module_of(crate)}" for crate in self.crates}
+        self.paths = {crate: f"crate::proved::{module_of(crate)}" for crate in self.crates} | {"bitvec": "crate"}
         self.exports = self.exported()
-        self.macros, self.contracts = set(), Contracts(TOP)
+        self.macros, self.contracts, self.untested = set(), Contracts(TOP), []
         for files in self.parsed.values():
             for _, items in files.values():
                 self.known.read(items)
                 self.macros |= {item.name for item in items if item.kind == "macro_rules"}
         self.functions = {home: set() for home in self.paths.values()}
         for rows in self.exports.values():
-            for _, (crate, path, _) in rows:
+            for crate, path, _ in rows:
                 self.functions[self.paths[crate]].add(path.split("::")[-1])
                 file = self.parsed[crate].get(pathlib.Path(f"{path}.rt"))
                 self.functions[self.paths[crate]] |= {it.name for it in file[1] if it.kind == "fn"} if file else set()
 
     def exported(self):
-        """What `bitvec` passes on: for each of its modules, the crate, the name and the name there."""
+        """What `bitvec` passes on to users: for each of its modules, the crate, the name and the name there."""
         found = {}
         for path, (name, items) in sources("bitvec").items():
             rows = []
             for item in items:
-                if item.kind == "use":
-                    rows += [(item, row) for row in self.uses(item, name)]
+                if item.kind == "use" and not item.hidden:
+                    rows += self.uses(item, name)
             found[path.stem] = rows
-            self.known.public |= {row[1].split("::")[-1] for _, row in rows if not self.is_hidden(row, rows)}
+        found["record"] = [(RECORDS, name, name) for name in self.passed_by_records()]
+        self.known.public |= {row[1].split("::")[-1] for rows in found.values() for row in rows}
         return found
 
     @staticmethod
-    def is_hidden(row, rows):
-        return any(item.hidden for item, it in rows if it == row)
+    def passed_by_records():
+        """The names of the functions and types of records."""
+        _, items = sources(RECORDS)[pathlib.Path("lib.rt")]
+        uses = [solid(item.head) for item in items if item.kind == "use" and item.is_public]
+        return [node.text for words in uses for node in (words[-2].inner if is_group(words[-2]) else words[-2:-1]) if is_word(node)]
 
     def uses(self, item, file):
         """The rows of `use crate::{a, b as c};`."""
@@ -130,25 +140,34 @@ class Package:
     # writing
 
     def write(self):
-        source = self.out / "src"
+        source, self.calls = self.out / "src", calls.Calls(self)
         lines = ["//! The proved text, a module a crate, without contracts, ghosts and tactics.\n\n"]
         for crate in self.crates:
             self.write_crate(crate, source / "proved" / module_of(crate))
-            lines.append(f"pub(crate) mod {module_of(crate)};\n")
-        (source / "proved/mod.rs").write_text("".join(lines))
+            lines.append(self.gated_module(crate) + f"pub(crate) mod {module_of(crate)};\n")
+        (source / "proved/mod.rs").write_text("".join(lines) + self.passed_untested())
         self.write_public(source)
         self.write_by_hand(source)
+
+    @staticmethod
+    def gated_module(name):
+        """What guards a module that needs memory as a whole."""
+        return '#[cfg(feature = "alloc")]\n' if module_of(name) == module_of(RECORDS) else ""
 
     def write_by_hand(self, source):
         """The package's own files, and the modules by hand."""
         version = (TOP / "VERSION").read_text().strip()
         (self.out / "Cargo.toml").write_text((HAND / "Cargo.toml").read_text().replace("@VERSION@", version))
-        shutil.copy(HAND / "README.md", self.out)
+        for name in ("README.md", "FROM_BITVEC.md"):
+            shutil.copy(HAND / name, self.out)
+        shutil.copy(TOP / "CHANGELOG.md", self.out)
         shutil.copy(TOP / "LICENSE", self.out)
         for path in (HAND / "src").glob("*.rs"):
             shutil.copy(path, source)
+        (source / "calls.rs").write_text(self.calls.written())
+        native.adapt(source)
         (source / "definitions.rs").write_text(self.contracts.written())
-        modules = "".join(f"pub mod {name};\n" for name in sorted([*self.exports, "definitions"]) if name != "lib")
+        modules = "".join(f"{self.gated_module(name)}pub mod {name};\n" for name in sorted([*self.exports, "definitions"]) if name != "lib")
         lib = source / "lib.rs"
         if "// modules\n" not in lib.read_text():
             raise Refused(f"{HAND / 'src/lib.rs'} has no line `// modules`")
@@ -166,12 +185,29 @@ class Package:
             target = folder / path.with_suffix(".rs")
             target.parent.mkdir(parents=True, exist_ok=True)
             target.write_text(self.finished(eraser, items) + self.wrappers(eraser, items, path))
+            self.note_untested(crate, path, eraser.traits_untested, gated)
         file, items = files[pathlib.Path("lib.rt")]
         for item in items:
             self.gate(item, gated)
         folder.mkdir(parents=True, exist_ok=True)
         public = [it.name for it in items if it.kind == "mod" and it.is_public]
-        (folder / "mod.rs").write_text(self.finished(self.eraser(crate, file), items) + self.exported_macros(files) + self.passed(public))
+        (folder / "mod.rs").write_text(self.finished(self.eraser(crate, file), items) + self.exported_macros(files) + self.passed(public) + self.uses_untested(crate))
+
+    def note_untested(self, crate, path, traits, gated):
+        """Notes the private traits of a file."""
+        if traits and len(path.parts) > 1:
+            raise Refused(f"crates/{crate}/src/{path} has a trait that users reach: it has to stand in a file of the crate's own folder")
+        gate = '#[cfg(feature = "alloc")]\n' if path.stem in gated else ""
+        self.untested += [(crate, path.stem, trait, gate) for trait in traits]
+
+    def uses_untested(self, crate):
+        """Passes on the private traits of a crate."""
+        return "".join(f"\n{gate}pub(crate) use {file}::{trait};\n" for home, file, trait, gate in self.untested if home == crate)
+
+    def passed_untested(self):
+        """The module of all private traits."""
+        lines = "".join(f"    {gate.strip()}\n" * bool(gate) + f"    pub(crate) use super::{module_of(crate)}::{trait};\n" for crate, _, trait, gate in self.untested)
+        return f"\n/// What only the library calls of the traits that users reach.\n#[allow(unused_imports)]\npub(crate) mod untested {{\n{lines}}}\n"
 
     @staticmethod
     def exported_macros(files):
@@ -216,16 +252,15 @@ class Package:
         for module, rows in self.exports.items():
             if module == "lib":
                 continue
-            _, items = sources("bitvec")[pathlib.Path(f"{module}.rt")]
+            _, items = sources(RECORDS)[pathlib.Path("lib.rt")] if module == "record" else sources("bitvec")[pathlib.Path(f"{module}.rt")]
             docs = "".join(item.docs[0].text + "\n" for item in items if item.kind == "inner doc")
-            lines = [self.public_row(item, *row) for item, row in rows]
+            lines = [self.public_row(*row) for row in rows]
             (source / f"{module}.rs").write_text(docs + "\n" + "".join(lines) + self.by_hand(module))
 
-    def public_row(self, item, crate, path, name):
+    def public_row(self, crate, path, name):
         """The line that passes a name on, or the module whose functions test."""
         home = self.paths[crate]
         gate = '#[cfg(feature = "alloc")]\n' if self.needs_memory(crate, path) else ""
-        hidden = "#[doc(hidden)]\n" if item.hidden else ""
         last = path.split("::")[-1]
         tail = f" as {name}" if name != last else ""
         file = self.parsed[crate].get(pathlib.Path(f"{path}.rt"))
@@ -237,7 +272,7 @@ class Package:
         function = self.function(crate, last)
         tested = "tested::" if function and self.is_tested(function) else ""
         old = "#[allow(deprecated)]\n" if function and function.has_attribute("deprecated") else ""
-        return f"{gate}{hidden}{old}pub use {home}::{tested}{path}{tail};\n"
+        return f"{gate}{old}pub use {home}::{tested}{path}{tail};\n"
 
     def lib(self, crate):
         return self.parsed[crate][pathlib.Path("lib.rt")][1]
@@ -273,12 +308,16 @@ class Package:
     def finished(eraser, items, memory="crate::memory"):
         """The text of a file, with what it imports of the modules by hand."""
         written = eraser.items(items, None)
+        if eraser.tester.tests:
+            written = imports_of.pruned(written, eraser.tester.known.required)
         imports = []
         if eraser.uses_vec:
             imports.append(f"use {memory}::Vec;\n")
         if "try_extend(" in written and ".try_extend(" in written:
             imports.append(f"use {memory}::TryExtend;\n")
         imports += [f"use crate::older::{name};\n" for name in sorted(eraser.newer)]
+        if eraser.calls_untested:
+            imports.append("#[allow(unused_imports)]\nuse crate::proved::untested::*;\n")
         written = Package.imported(written, "".join(imports))
         return re.sub(r"\n{3,}", "\n\n", re.sub(r"[ \t]+\n", "\n", written)).strip() + "\n"
 

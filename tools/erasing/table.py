@@ -18,6 +18,9 @@ TERMS = [
     ("length (held self)", "self.len()", "len"),
     ("length (numbers self)", "self.len()", "len"),
     ("length (Self.numbers self)", "self.len()", "len"),
+    ("bits_of ?layout", "{layout}.bits()", "{layout}.bits"),
+    ("length (fields_of self)", "self.len()", "len"),
+    ("length (fields_of ?layout)", "{layout}.len()", "{layout}.len"),
     ("length ?list", "#list", "{list}.len"),
     ("vec_len ?list", "#list", "{list}.len"),
     ("N", "N", "N"),
@@ -58,7 +61,7 @@ CONDITIONS = [
     ("IsTrue (is_lent self) → ?len ≡ 1", "!self.has || {len} == 1", "the piece has one bit"),
     ("?a + ?b < 2 ^ 64", "({a}).checked_add({b}).is_some()", "{a} + {b} is a usize"),
     ("?number < 2 ^ ?bits", "crate::conditions::fits_width({number} as u128, {bits})", "{number} has at most {bits} bits"),
-    ("?a.value first ≡ slice_index ?list ?at", "true", "the element is the one that is there"),
+    ("?a.value ?element ≡ slice_index (?kind.numbers ?cells) ?at", "crate::conditions::has_element({cells}, {at}, {element})", "{element} is the element at {at}"),
     ("(walk_of self).front < (walk_of self).back", "!self.is_empty()", "a piece is left"),
     ("(bit_walk_of self).front < (bit_walk_of self).back", "!self.is_empty()", "a bit is left"),
     ("?a ≤ ?b", "{a} <= {b}", "{a} <= {b}"),
@@ -69,8 +72,10 @@ CONDITIONS = [
 # What Rust's own types and its borrow checker grant.
 NOTHING = ("MayGoOnIn", "MayGoOn", "CallableBelow", "CallableOnBits", "always_mut")
 # What a closure owes that edits a view, tested each time that it has been called: that the view stands where it did.
-STAYS = {"MayEdit": "stays", "MayEditEach": "each_stays", "MayEditGiven": "each_stays"}
+STAYS = ("MayEdit", "MayEditEach", "MayEditGiven")
 
+# The value that only the library can make: it stands for conditions that are met.
+MET = "crate::conditions::Met"
 # Methods that call a method of their own trait with the same conditions, which tests them.
 DELEGATED = {("BitField", "load"), ("BitFieldMut", "store"), ("EditElements", "edit_elements")}
 # Hidden methods that test conditions, since public ones leave them that.

@@ -1,2 +1,2 @@
 #[cfg(feature = "alloc")]
-pub use crate::traits::IntoIter;
+pub use crate::iterating::{Drain, IntoIter};

@@ -1,9 +1,32 @@
 //! What a caller has to see to, tested when a call begins.
 
 use crate::proved::base::{BitOrder, Window, MAX_BITS};
-use crate::proved::slice::View;
+use crate::proved::cells::CellsRead;
+use crate::proved::closures::EditParts;
+use crate::proved::slice::{Sealed, View};
 use crate::proved::store::BitStore;
 use core::fmt;
+use core::marker::PhantomData;
+
+/// The conditions of a call are met: only the library can make this value, so only it calls what takes one.
+///
+/// ```compile_fail
+/// use fehimbary::prelude::*;
+///
+/// // No path leads to `Met`, and nothing else stands in its place.
+/// 48u64.view_bits::<Lsb0>().into_part(0..48).load_le_proved::<u8>(());
+/// ```
+///
+/// What no type brings anew stands in private traits.
+///
+/// ```compile_fail
+/// use fehimbary::prelude::*;
+///
+/// let mut bytes = [0u8; 6];
+/// bytes.view_bits_mut::<Lsb0>().part_mut(2..4).narrow(0..6);
+/// ```
+#[derive(Clone, Copy)]
+pub struct Met;
 
 /// Panics, at the caller's place, with the condition that fails and with the values that it is of.
 #[cold]
@@ -67,6 +90,12 @@ pub(crate) fn covers(window: Window, count: usize, bits: usize) -> bool {
     window.start == 0 && window.len == bits * count
 }
 
+/// Whether an accessor has an element at an index, by one load more.
+#[inline(always)]
+pub(crate) fn has_element<C: CellsRead>(cells: &mut C, index: usize, element: C::Elem) -> bool {
+    cells.load(index).to_u128() == element.to_u128()
+}
+
 /// Where a view stands: its elements, and its window among them.
 fn place<T: BitStore, O: BitOrder, V: View<T, O>>(view: &V) -> (*const [T], Window) {
     let bits = view.as_bitslice();
@@ -74,31 +103,42 @@ fn place<T: BitStore, O: BitOrder, V: View<T, O>>(view: &V) -> (*const [T], Wind
     (elements, bits.window())
 }
 
-/// Panics where a closure has put another view, or a part of it, in the place of the one that it was given.
-fn stayed<T: BitStore, O: BitOrder, V: View<T, O>>(view: &V, before: (*const [T], Window)) {
-    if place(view) != before {
+/// A view while a closure edits it: where the closure ends by a panic, it stands among the same elements as before.
+struct Edited<'v, T: BitStore, O: BitOrder, V: EditParts<T, O>> {
+    view: &'v mut V,
+    elements: *const [T],
+    whole: Option<Window>,
+    order: PhantomData<O>,
+}
+
+impl<T: BitStore, O: BitOrder, V: EditParts<T, O>> Drop for Edited<'_, T, O, V> {
+    #[inline]
+    fn drop(&mut self) {
+        if let Some(whole) = self.whole {
+            if core::ptr::eq(place(self.view).0, self.elements) {
+                self.view.stand_at(whole, Sealed);
+            }
+        }
+    }
+}
+
+/// Calls a closure on a view, and panics where the closure puts another view, or a part of it, in the place of the one that it was
+/// given. If the call ends by a panic, the view has the window `whole` afterwards, if one is given.
+#[inline(always)]
+#[track_caller]
+pub(crate) fn edited<T, O, V, F, R>(view: &mut V, whole: Option<Window>, edit: F) -> R
+where
+    T: BitStore,
+    O: BitOrder,
+    V: EditParts<T, O>,
+    F: FnOnce(&mut V) -> R,
+{
+    let before = place(view);
+    let mut during = Edited { view, elements: before.0, whole, order: PhantomData };
+    let result = edit(during.view);
+    if place(during.view) != before {
         fails("an edit", "its closure leaves the view in its place", &[]);
     }
-}
-
-/// A closure over a view that is seen to leave the view in its place.
-#[inline(always)]
-pub(crate) fn stays<T: BitStore, O: BitOrder, V: View<T, O>, F: FnOnce(&mut V) -> R, R>(edit: F) -> impl FnOnce(&mut V) -> R {
-    move |view: &mut V| {
-        let before = place(view);
-        let result = edit(view);
-        stayed(view, before);
-        result
-    }
-}
-
-/// [`stays`] of a closure that is called for each piece, by its number.
-#[inline(always)]
-pub(crate) fn each_stays<T: BitStore, O: BitOrder, V: View<T, O>, F: FnMut(usize, &mut V) -> R, R>(mut edit: F) -> impl FnMut(usize, &mut V) -> R {
-    move |number, view: &mut V| {
-        let before = place(view);
-        let result = edit(number, view);
-        stayed(view, before);
-        result
-    }
+    during.whole = None;
+    result
 }

@@ -39,12 +39,14 @@ impl<A: Allocator + ?Sized> Allocator for &A {
     }
 }
 
-/// A copy for `Clone`, which can't answer that memory was refused: it panics, as std does at a capacity that can't be had.
+/// What was made, for a call that can't answer that memory was refused: it panics, as std does at a capacity that can't be had.
 #[cfg(feature = "alloc")]
+#[inline]
+#[track_caller]
 pub(crate) fn granted<T>(made: Result<T, AllocError>) -> T {
     match made {
         Ok(made) => made,
-        Err(AllocError) => panic!("memory for a copy was refused"),
+        Err(AllocError) => panic!("memory was refused"),
     }
 }
 
@@ -65,7 +67,6 @@ mod growing {
     }
 
     /// A vector whose calls answer where memory is refused. It is a slice by `Deref`, and a `Vec` of Rust by `into`.
-    #[derive(Clone)]
     pub struct Vec<T, A: Allocator = Global> {
         items: vec::Vec<T>,
         alloc: A,
@@ -78,7 +79,7 @@ mod growing {
             Vec { items, alloc }
         }
 
-        /// A vector of no item with room for `count`.
+        /// A vector of no item with room for `count`, asked for by one request. std gives so much or more.
         pub fn with_capacity(alloc: A, count: usize) -> Result<Self, AllocError> {
             let mut made = Vec::new(alloc);
             made.grow(count, vec::Vec::try_reserve_exact)?;
@@ -114,15 +115,25 @@ mod growing {
 
         /// Makes room for so many items more, at least.
         #[inline]
-        pub fn reserve(&mut self, more: usize) -> Result<(), AllocError> {
+        pub fn try_reserve(&mut self, more: usize) -> Result<(), AllocError> {
             self.grow(more, vec::Vec::try_reserve)
         }
 
         /// Adds an item.
         #[inline]
-        pub fn push(&mut self, item: T) -> Result<(), AllocError> {
-            self.reserve(1)?;
+        pub fn try_push(&mut self, item: T) -> Result<(), AllocError> {
+            self.try_reserve(1)?;
             self.items.push(item);
+            Ok(())
+        }
+
+        /// Adds clones of the items of a slice.
+        pub fn extend_from_slice(&mut self, items: &[T]) -> Result<(), AllocError>
+        where
+            T: Clone,
+        {
+            self.try_reserve(items.len())?;
+            self.items.extend_from_slice(items);
             Ok(())
         }
 
@@ -134,11 +145,11 @@ mod growing {
 
         /// Keeps the first `len` items, or adds as many clones as there are `len` with them.
         #[inline]
-        pub fn resize(&mut self, len: usize, item: T) -> Result<(), AllocError>
+        pub fn try_resize(&mut self, len: usize, item: T) -> Result<(), AllocError>
         where
             T: Clone,
         {
-            self.reserve(len.saturating_sub(self.items.len()))?;
+            self.try_reserve(len.saturating_sub(self.items.len()))?;
             self.items.resize(len, item);
             Ok(())
         }
@@ -205,6 +216,21 @@ mod growing {
         /// The items as a `Vec` of Rust.
         pub fn into_std(self) -> vec::Vec<T> {
             self.items
+        }
+    }
+
+    impl<T: Clone, A: Allocator + Clone> Vec<T, A> {
+        /// A copy whose memory is asked for by one request of an allocator that is this one's, cloned.
+        pub fn try_clone(&self) -> Result<Self, AllocError> {
+            Vec::from_slice(self.alloc.clone(), &self.items)
+        }
+    }
+
+    /// It panics where memory is refused; `try_clone` answers that.
+    impl<T: Clone, A: Allocator + Clone> Clone for Vec<T, A> {
+        #[track_caller]
+        fn clone(&self) -> Self {
+            super::granted(self.try_clone())
         }
     }
 

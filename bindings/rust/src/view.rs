@@ -1,6 +1,13 @@
 //! Arrays and slices of elements viewed as bits.
 
-use crate::prelude::{BitOrder, BitSlice, BitSliceMut, BitStore};
+use crate::prelude::{BitOrder, BitSlice, BitSliceMut, BitStore, Lsb0};
+
+/// The order of the machine's memory: `Lsb0` where the lowest byte comes first, else `Msb0`.
+#[cfg(target_endian = "little")]
+pub type LocalBits = crate::order::Lsb0;
+/// The order of the machine's memory: `Lsb0` where the lowest byte comes first, else `Msb0`.
+#[cfg(not(target_endian = "little"))]
+pub type LocalBits = crate::order::Msb0;
 
 /// What is viewed as bits: `bitvec`'s `BitView`.
 ///
@@ -20,6 +27,44 @@ pub trait BitView {
 
     /// All its bits, for writing. It panics where they are more than `MAX_BITS`.
     fn view_bits_mut<O: BitOrder>(&mut self) -> BitSliceMut<'_, Self::Store, O>;
+
+    /// All its bits, the lowest of an element first.
+    #[track_caller]
+    fn bits(&self) -> BitSlice<'_, Self::Store, Lsb0> {
+        self.view_bits()
+    }
+
+    /// All its bits, the lowest of an element first, for writing.
+    #[track_caller]
+    fn bits_mut(&mut self) -> BitSliceMut<'_, Self::Store, Lsb0> {
+        self.view_bits_mut()
+    }
+}
+
+/// What gives a slice of elements, viewed as bits.
+pub trait AsBits<T: BitStore> {
+    /// All bits of the elements. It panics where they are more than `MAX_BITS`.
+    fn as_bits<O: BitOrder>(&self) -> BitSlice<'_, T, O>;
+}
+
+/// What gives a slice of elements for writing, viewed as bits.
+pub trait AsMutBits<T: BitStore> {
+    /// All bits of the elements, for writing. It panics where they are more than `MAX_BITS`.
+    fn as_mut_bits<O: BitOrder>(&mut self) -> BitSliceMut<'_, T, O>;
+}
+
+impl<T: BitStore, L: AsRef<[T]> + ?Sized> AsBits<T> for L {
+    #[track_caller]
+    fn as_bits<O: BitOrder>(&self) -> BitSlice<'_, T, O> {
+        BitSlice::from_slice(self.as_ref())
+    }
+}
+
+impl<T: BitStore, L: AsMut<[T]> + ?Sized> AsMutBits<T> for L {
+    #[track_caller]
+    fn as_mut_bits<O: BitOrder>(&mut self) -> BitSliceMut<'_, T, O> {
+        BitSliceMut::from_slice_mut(self.as_mut())
+    }
 }
 
 impl<T: BitStore> BitView for [T] {
@@ -67,3 +112,27 @@ macro_rules! of_elements {
 }
 
 of_elements!(u8 u16 u32 u64 u128 usize);
+
+/// The constructors of writable views by the name of the shared one, as `bitvec` has them.
+impl<'a, T: BitStore, O: BitOrder> BitSlice<'a, T, O> {
+    /// The writable view of no bit: [`BitSliceMut::empty_mut`].
+    pub fn empty_mut() -> BitSliceMut<'a, T, O> {
+        BitSliceMut::empty_mut()
+    }
+
+    /// All bits of one element, for writing: [`BitSliceMut::from_element_mut`].
+    pub fn from_element_mut(element: &'a mut T) -> BitSliceMut<'a, T, O> {
+        BitSliceMut::from_element_mut(element)
+    }
+
+    /// All bits of the elements, for writing: [`BitSliceMut::from_slice_mut`].
+    #[track_caller]
+    pub fn from_slice_mut(elements: &'a mut [T]) -> BitSliceMut<'a, T, O> {
+        BitSliceMut::from_slice_mut(elements)
+    }
+
+    /// All bits of the elements, for writing: [`BitSliceMut::try_from_slice_mut`].
+    pub fn try_from_slice_mut(elements: &'a mut [T]) -> Result<BitSliceMut<'a, T, O>, crate::ptr::BitSpanError> {
+        BitSliceMut::try_from_slice_mut(elements)
+    }
+}

@@ -6,7 +6,9 @@ mod list;
 use fehimbary::cells::{Cells, CellsRead, Exclusive, Shared};
 use fehimbary::engine::{self, BitOp, End, Rest};
 use fehimbary::index::{Part, Window};
+use fehimbary::memory::Global;
 use fehimbary::prelude::*;
+use fehimbary::record::{self, Endian};
 use fehimbary::run::{run_halves, Op, Reply, Side, Step};
 use fehimbary::slice::*;
 use fehimbary::{domain::*, elements::*, in_place, walk, words};
@@ -34,13 +36,14 @@ struct Seen {
 }
 
 impl Seen {
-    /// Sees that a call on the bytes is refused with a condition, and leaves them.
+    /// Sees that a call on the bytes is refused with a condition, and leaves them. The message has no bits of a view.
     fn refuse(&mut self, name: &str, call: impl FnOnce(&mut [u8; 6])) {
         let mut bytes = BYTES;
         let ended = catch_unwind(AssertUnwindSafe(|| call(&mut bytes)));
         let message = ended.err().and_then(|panic| panic.downcast_ref::<String>().cloned());
         let condition = message.as_deref().unwrap_or_default().split(':').next().unwrap_or_default();
-        if condition.starts_with(&format!("{name} needs that ")) && bytes == BYTES {
+        let shows_bits = message.as_deref().unwrap_or_default().contains('[');
+        if condition.starts_with(&format!("{name} needs that ")) && bytes == BYTES && !shows_bits {
             self.conditions.insert(condition.to_string());
         } else {
             self.wrong.push(format!("{name}: {message:?}, and the bytes are {bytes:X?}"));
@@ -153,11 +156,6 @@ fn elements_and_orders(seen: &mut Seen) {
         merged(|_bytes| words::merged::<Lsb0, u8>(1, 2, 5, 9));
         moved(|_bytes| words::moved::<Lsb0, u8, u16>(1, 5, 4, 0));
         moved(|_bytes| words::moved::<Lsb0, u16, u8>(1, 5, 4, 5));
-        with_next(|_bytes| fehimbary::order::with_next::<Lsb0>(1, 4, 1, 0));
-        with_next(|_bytes| fehimbary::order::with_next::<Lsb0>(1, 4, 1, 64));
-        with_next(|_bytes| fehimbary::order::with_next::<Lsb0>(1, 60, 1, 5));
-        with_next(|_bytes| fehimbary::order::with_next::<Lsb0>(16, 4, 1, 1));
-        with_next(|_bytes| fehimbary::order::with_next::<Lsb0>(1, 4, 2, 1));
     );
     for (from, to) in [(2, 1), (2, 9)] {
         let part = Part { element: 0, from, to };
@@ -179,6 +177,7 @@ fn parts_of_cells(seen: &mut Seen) {
         store_part(|bytes| words::store_part::<Lsb0, _>(&mut cells(bytes), PART, 1));
         load_element(|bytes| words::load_element::<Lsb0, _>(&mut cells(bytes), IN));
         load_element_after(|bytes| words::load_element_after::<Lsb0, _>(&mut cells(bytes), IN, 1));
+        load_element_after(|bytes| words::load_element_after::<Lsb0, _>(&mut cells(bytes), Window { start: 11, len: 5 }, 0x3D));
         load_short(|bytes| words::load_short::<Lsb0, _>(&mut cells(bytes), IN));
         store_short(|bytes| words::store_short::<Lsb0, _>(&mut cells(bytes), IN, 1));
         load_short(|bytes| words::load_short::<Lsb0, _>(&mut cells(bytes), OUT));
@@ -333,8 +332,17 @@ fn ranges_in_place(seen: &mut Seen) {
         peek(|bytes| in_place::BitReader::<u8, Msb0>::new(bytes).peek::<u8>(9));
         starting_at(|bytes| in_place::BitWriter::<u8, Msb0>::starting_at(bytes, 49));
         take(|bytes| in_place::BitReader::<u8, Msb0>::new(bytes).take::<u8>(9));
+        peek_highest_first(|bytes| in_place::BitReader::<u8, Lsb0>::new(bytes).peek_highest_first::<u8>(9));
+        peek_lowest_first(|bytes| in_place::BitReader::<u8, Msb0>::new(bytes).peek_lowest_first::<u8>(9));
+        take_highest_first(|bytes| in_place::BitReader::<u8, Lsb0>::new(bytes).take_highest_first::<u8>(9));
+        take_lowest_first(|bytes| in_place::BitReader::<u8, Msb0>::new(bytes).take_lowest_first::<u8>(9));
+        take_row(|bytes| in_place::BitReader::<u8, Msb0>::new(bytes).take_row(&mut [(3, 1), (65, 1)]));
+        within(|bytes| in_place::BitWriter::<u8, Msb0>::within(bytes, 40..49));
+        within(|bytes| in_place::BitWriter::<u8, Msb0>::within(bytes, 9..8));
         put_row(|bytes| in_place::BitWriter::<u8, Msb0>::new(bytes).put_row(&[(3, 1), (65, 1)]));
         put(|bytes| in_place::BitWriter::<u8, Msb0>::new(bytes).put::<u8>(1, 9));
+        put_highest_first(|bytes| in_place::BitWriter::<u8, Lsb0>::new(bytes).put_highest_first::<u8>(1, 9));
+        put_lowest_first(|bytes| in_place::BitWriter::<u8, Msb0>::new(bytes).put_lowest_first::<u8>(1, 9));
     );
     for range in [40..49, 5..5, 5..14] {
         refused!(seen;
@@ -368,6 +376,7 @@ fn views(seen: &mut Seen) {
         into_slice(|bytes| view(bytes).into_part(1..48).into_slice());
         split_at(|bytes| shown(bytes).split_at(49));
         split_at(|bytes| view(bytes).split_at(49));
+        lending_split_at_mut(|bytes| view(bytes).lending_split_at_mut(49));
         split_at_mut(|bytes| view(bytes).split_at_mut(49));
         split_apart_mut(|bytes| view(bytes).split_apart_mut(49));
         set(|bytes| view(bytes).set(48, true));
@@ -400,9 +409,13 @@ fn views(seen: &mut Seen) {
         chunks_exact(|bytes| shown(bytes).chunks_exact(0));
         rchunks(|bytes| shown(bytes).rchunks(0));
         rchunks_exact(|bytes| shown(bytes).rchunks_exact(0));
+        lending_chunks_mut(|bytes| view(bytes).lending_chunks_mut(0));
         chunks_mut(|bytes| view(bytes).chunks_mut(0));
+        lending_chunks_exact_mut(|bytes| view(bytes).lending_chunks_exact_mut(0));
         chunks_exact_mut(|bytes| view(bytes).chunks_exact_mut(0));
+        lending_rchunks_mut(|bytes| view(bytes).lending_rchunks_mut(0));
         rchunks_mut(|bytes| view(bytes).rchunks_mut(0));
+        lending_rchunks_exact_mut(|bytes| view(bytes).lending_rchunks_exact_mut(0));
         rchunks_exact_mut(|bytes| view(bytes).rchunks_exact_mut(0));
         edit_with(|bytes| view(bytes).edit_with(40..49, |part| part.fill(false)));
         edit_halves(|bytes| view(bytes).edit_halves(49, |left| left.fill(false), |right| right.fill(true)));
@@ -410,10 +423,10 @@ fn views(seen: &mut Seen) {
         for_each_rchunk_mut(|bytes| view(bytes).for_each_rchunk_mut(0, |_, part| part.invert()));
         for_each_chunk_exact_mut(|bytes| view(bytes).for_each_chunk_exact_mut(0, |_, part| part.invert()));
         for_each_rchunk_exact_mut(|bytes| view(bytes).for_each_rchunk_exact_mut(0, |_, part| part.invert()));
-        take_mut(|bytes| view(bytes).into_part(0..0).iter_mut().take_mut());
-        take_back_mut(|bytes| view(bytes).into_part(0..0).iter_mut().take_back_mut());
-        take_mut(|bytes| view(bytes).into_part(0..0).chunks_mut(3).take_mut());
-        take_back_mut(|bytes| view(bytes).into_part(0..0).chunks_mut(3).take_back_mut());
+        take_mut(|bytes| view(bytes).into_part(0..0).lending_iter_mut().take_mut());
+        take_back_mut(|bytes| view(bytes).into_part(0..0).lending_iter_mut().take_back_mut());
+        take_mut(|bytes| view(bytes).into_part(0..0).lending_chunks_mut(3).take_mut());
+        take_back_mut(|bytes| view(bytes).into_part(0..0).lending_chunks_mut(3).take_back_mut());
         bit(|bytes| view(bytes).get_lent(0..2).bit());
         load_le(|bytes| shown(bytes).into_part(0..0).load_le::<u8>());
         load_le(|bytes| shown(bytes).into_part(0..9).load_le::<u8>());
@@ -434,33 +447,51 @@ fn sequences(seen: &mut Seen) {
     refused!(seen;
         from_elements(|bytes| BitVec::<u8, Msb0>::from_elements(bytes.to_vec().into(), 8, 1));
         from_elements(|bytes| BitVec::<u8, Msb0>::from_elements(bytes.to_vec().into(), 7, 42));
-        extend_highest_first(|_bytes| made().extend_highest_first(1, 65));
-        extend_lowest_first(|_bytes| made().extend_lowest_first(1, 65));
-        insert(|_bytes| made().insert(49, true));
+        try_extend_highest_first(|_bytes| made().try_extend_highest_first(1, 65));
+        try_extend_lowest_first(|_bytes| made().try_extend_lowest_first(1, 65));
+        try_insert(|_bytes| made().try_insert(49, true));
         remove(|_bytes| made().remove(48));
         swap_remove(|_bytes| made().swap_remove(48));
-        split_off(|_bytes| made().split_off(49));
-        drain(|_bytes| made().drain(40..49));
+        try_split_off(|_bytes| made().try_split_off(49));
+        try_drain(|_bytes| made().try_drain(40..49));
     );
     let mut bits = made();
     assert!(catch_unwind(AssertUnwindSafe(|| bits.remove(48))).is_err());
     assert_eq!(bits.into_vec(), BYTES);
 }
 
-/// What is tested in debug builds only.
+/// The calls that `bitvec` doesn't test.
 fn unchecked(seen: &mut Seen) {
     refused!(seen;
         get_unchecked(|bytes| shown(bytes).get_unchecked(48));
         get_unchecked(|bytes| BitSliceIndex::get_unchecked(48, shown(bytes)));
         get_unchecked_mut(|bytes| view(bytes).get_unchecked_mut(40..49));
         get_unchecked_mut(|bytes| BitSliceIndex::get_unchecked_mut(48, view(bytes)));
+        get_unchecked(|bytes| shown(bytes).get_unchecked(9..3));
+        get_unchecked(|bytes| shown(bytes).get_unchecked(0..=usize::MAX));
+        get_unchecked_mut(|bytes| view(bytes).part_mut(2..4).get_unchecked_mut(0..6).fill(true));
         split_at_unchecked(|bytes| shown(bytes).split_at_unchecked(49));
-        split_at_unchecked_mut(|bytes| view(bytes).split_at_unchecked_mut(49));
+        lending_split_at_unchecked_mut(|bytes| view(bytes).lending_split_at_unchecked_mut(49));
         set_unchecked(|bytes| view(bytes).set_unchecked(48, true));
         replace_unchecked(|bytes| view(bytes).replace_unchecked(48, true));
         swap_unchecked(|bytes| view(bytes).swap_unchecked(48, 0));
         swap_unchecked(|bytes| view(bytes).swap_unchecked(0, 48));
         copy_within_unchecked(|bytes| view(bytes).copy_within_unchecked(0..9, 40));
+    );
+}
+
+fn records(seen: &mut Seen) {
+    let of = |bits| record::Layout::new(Global, bits, &[Window { start: 1, len: 7 }]).expect("memory");
+    let (layout, longer) = (of(48), of(49));
+    refused!(seen;
+        field(|_bytes| layout.field(1));
+        encode(|bytes| record::encode(&longer, Endian::Big, &[1], &mut view(bytes)));
+        encode_one(|bytes| record::encode_one(&longer, Endian::Big, 0, 1, &mut view(bytes)));
+        encode_one(|bytes| record::encode_one(&layout, Endian::Big, 1, 1, &mut view(bytes)));
+        decode(|bytes| record::decode(&longer, Endian::Big, shown(bytes), &mut [0]));
+        decode(|bytes| record::decode(&layout, Endian::Big, shown(bytes), &mut [0, 0]));
+        decode_one(|bytes| record::decode_one(&longer, Endian::Big, shown(bytes), 0));
+        decode_one(|bytes| record::decode_one(&layout, Endian::Big, shown(bytes), 1));
     );
 }
 
@@ -475,36 +506,21 @@ fn each_condition_is_tested_before_anything_is_written() {
     ranges_in_place(&mut seen);
     views(&mut seen);
     sequences(&mut seen);
-    if cfg!(debug_assertions) {
-        unchecked(&mut seen);
-    }
+    records(&mut seen);
+    unchecked(&mut seen);
     let _ = std::panic::take_hook();
     assert!(seen.wrong.is_empty(), "{:#?}", seen.wrong);
-    let is_left = |condition: &&&str| {
-        let is_debug = condition.contains("_unchecked") && !cfg!(debug_assertions);
-        !seen.conditions.contains(**condition) && !BOUNDLESS.iter().any(|end| condition.ends_with(end)) && !is_debug
-    };
+    let is_left = |condition: &&&str| !seen.conditions.contains(**condition) && !BOUNDLESS.iter().any(|end| condition.ends_with(end));
     let left: Vec<_> = list::CONDITIONS.iter().filter(is_left).collect();
     assert!(left.is_empty(), "no call here breaks {left:#?}");
 }
 
 #[test]
-fn a_closure_has_to_leave_the_view_in_its_place() {
-    let (mut bytes, mut others) = (BYTES, BYTES);
-    let (mut whole, mut other) = (view(&mut bytes), Some(view(&mut others)));
-    let swaps = AssertUnwindSafe(|| whole.edit_with(3..9, |piece| *piece = other.take().unwrap()));
-    let panic = catch_unwind(swaps).expect_err("the view was moved");
-    let message = panic.downcast_ref::<String>().expect("a message");
-    assert_eq!(message, "an edit needs that its closure leaves the view in its place");
-    let (mut bytes, mut others) = (BYTES, [0u8; 6]);
-    let (mut whole, mut other) = (view(&mut bytes), Some(view(&mut others)));
-    let swaps = AssertUnwindSafe(|| {
-        whole.for_each_chunk_mut(5, |number, piece| {
-            if number == 2 {
-                *piece = other.take().unwrap();
-            }
-        })
-    });
-    assert!(catch_unwind(swaps).is_err());
-    assert_eq!(bytes, BYTES);
+fn a_message_has_the_window_of_a_view() {
+    let long = vec![0u8; 1 << 17];
+    let mut bytes = BYTES;
+    let call = AssertUnwindSafe(|| view(&mut bytes).copy_from_bitslice(BitSlice::<u8, Msb0>::from_slice(&long).into_part(5..1 << 20)));
+    let message = *catch_unwind(call).expect_err("the lengths differ").downcast::<String>().expect("a message");
+    let values = "len is 48, src.window is Window { start: 5, len: 1048571 }, src.len is 1048571";
+    assert_eq!(message, format!("copy_from_bitslice needs that len == src.len: {values}"));
 }

@@ -8,9 +8,15 @@ use fehimbary::memory::Global;
 use fehimbary::prelude::*;
 use fehimbary::run::{run, Op, Refusal, Reply, Step};
 
+/// The number of a word. One that no `usize` has is the greatest that there is, which lies behind each end too.
+fn number_of(word: &str) -> usize {
+    let number: u64 = word.parse().expect("a number");
+    usize::try_from(number).unwrap_or(usize::MAX)
+}
+
 /// The command of a line's words, behind the two ends of its sub-range.
 fn command(words: &[&str]) -> Op {
-    let number = |place: usize| words[place].parse::<usize>().expect("a number");
+    let number = |place: usize| number_of(words[place]);
     let bit = |place: usize| words[place] == "1";
     let window = || Window { start: number(1), len: number(2) };
     match words[0] {
@@ -49,7 +55,7 @@ fn command(words: &[&str]) -> Op {
 
 fn step(line: &str) -> Step {
     let words: Vec<&str> = line.trim_end_matches('\r').split(' ').collect();
-    let end = |place: usize| words[place].parse().expect("a number");
+    let end = |place: usize| number_of(words[place]);
     Step { from: end(0), to: end(1), op: command(&words[2..]) }
 }
 
@@ -84,7 +90,7 @@ fn memory<T: BitStore>(elements: &[T]) -> String {
 /// What a run prints.
 fn printed<T: BitStore, O: SliceOrder>(words: &[&str; 6], input: &str) -> String {
     let (mut left, right) = (elements::<T>(words[2]), elements::<T>(words[3]));
-    let window = Window { start: words[4].parse().expect("a start"), len: words[5].parse().expect("a length") };
+    let window = Window { start: number_of(words[4]), len: number_of(words[5]) };
     let steps: Vec<Step> = input.lines().filter(|line| !line.trim_end_matches('\r').is_empty()).map(step).collect();
     let replies = run::<O, _, _, _>(Global, &mut Exclusive::new(&mut left), window, &mut Shared::new(&right), &steps);
     let replies: String = replies.expect("a run").iter().map(reply).collect();

@@ -1,4 +1,4 @@
-//! Random calls on windows of a memory and on sequences, beside a plain list of truth values: six widths, three orders, a
+//! Random calls on windows of two memories and on sequences, beside plain lists of truth values: six widths, three orders, a
 //! million calls in all.
 
 use fehimbary::memory::Global;
@@ -53,11 +53,40 @@ fn combine(kind: usize, bits: &mut [bool], others: impl IntoIterator<Item = bool
     }
 }
 
+/// An edit of a view by what stands in another memory, or of both, and of their lists.
+fn edit_both<T: BitStore, O: SliceOrder>(drawn: &mut Drawn, view: &mut BitSliceMut<'_, T, O>, bits: &mut [bool], beside: &mut BitSliceMut<'_, T, O>, other: &mut [bool]) {
+    let count = bits.len().min(other.len());
+    let (here, there) = (drawn.below(bits.len() - count + 1), drawn.below(other.len() - count + 1));
+    let (here, there) = (here..here + count, there..there + count);
+    match drawn.below(3) {
+        0 => {
+            view.part_mut(here.clone()).copy_from_bitslice(beside.as_ref().into_part(there.clone()));
+            assert_eq!(view.as_ref().into_part(here.clone()), beside.as_ref().into_part(there.clone()));
+            bits[here].copy_from_slice(&other[there]);
+        }
+        1 => {
+            view.part_mut(here.clone()).swap_with_bitslice(&mut beside.part_mut(there.clone()));
+            bits[here].swap_with_slice(&mut other[there]);
+        }
+        _ => {
+            let (kind, right) = (drawn.below(4), beside.as_ref());
+            match kind {
+                0 => view.and_bits(right),
+                1 => *view |= right,
+                2 => *view ^= right,
+                _ => view.and_not_bits(right),
+            }
+            let others = other.iter().copied().chain(std::iter::repeat(false));
+            combine(kind, bits, others);
+        }
+    }
+}
+
 /// An edit of a view, and of its list.
-fn edit<T: BitStore, O: SliceOrder>(drawn: &mut Drawn, view: &mut BitSliceMut<'_, T, O>, bits: &mut [bool], other: &[bool], beside: BitSlice<'_, T, O>) {
+fn edit<T: BitStore, O: SliceOrder>(drawn: &mut Drawn, view: &mut BitSliceMut<'_, T, O>, bits: &mut [bool]) {
     let len = bits.len();
     let by = drawn.below(len + 1);
-    match drawn.below(15) {
+    match drawn.below(13) {
         0 => {
             let bit = drawn.bit();
             view.fill(bit);
@@ -106,22 +135,6 @@ fn edit<T: BitStore, O: SliceOrder>(drawn: &mut Drawn, view: &mut BitSliceMut<'_
             bits.swap(first, second);
         }
         10 => {
-            let count = len.min(other.len());
-            view.part_mut(0..count).copy_from_bitslice(beside.into_part(0..count));
-            bits[..count].copy_from_slice(&other[..count]);
-        }
-        11 => {
-            let kind = drawn.below(4);
-            match kind {
-                0 => view.and_bits(beside),
-                1 => *view |= beside,
-                2 => *view ^= beside,
-                _ => view.and_not_bits(beside),
-            }
-            let others = other.iter().copied().chain(std::iter::repeat(false));
-            combine(kind, bits, others);
-        }
-        12 => {
             let (kind, range) = (drawn.below(4), drawn.range(len));
             let dest = drawn.below(len - range.len() + 1);
             match kind {
@@ -133,7 +146,7 @@ fn edit<T: BitStore, O: SliceOrder>(drawn: &mut Drawn, view: &mut BitSliceMut<'_
             let source = bits[range.clone()].to_vec();
             combine(kind, &mut bits[dest..dest + range.len()], source);
         }
-        13 => {
+        11 => {
             let count = by / 2;
             view.swap_within(0..count, len - count);
             let (front, back) = bits.split_at_mut(len - count);
@@ -141,7 +154,7 @@ fn edit<T: BitStore, O: SliceOrder>(drawn: &mut Drawn, view: &mut BitSliceMut<'_
         }
         _ => {
             let size = 1 + drawn.below(9);
-            let mut walk = view.chunks_mut(size);
+            let mut walk = view.lending_chunks_mut(size);
             while let Some(mut chunk) = walk.next_mut() {
                 let bit = chunk.as_ref().first_one() == Some(0);
                 chunk.fill(!bit);
@@ -192,64 +205,66 @@ type Number<T, O> = fn(&mut Drawn, BitSliceMut<'_, T, O>, bool);
 
 fn windows<T: BitStore + Debug + PartialEq, O: SliceOrder>(seed: u64, number: Number<T, O>) {
     let mut drawn = Drawn(seed);
-    let mut element = |drawn: &mut Drawn| T::from_u128((u128::from(drawn.next()) << 64 | u128::from(drawn.next())) & T::ALL.to_u128());
+    let element = |drawn: &mut Drawn| T::from_u128((u128::from(drawn.next()) << 64 | u128::from(drawn.next())) & T::ALL.to_u128());
     for call in 0..CALLS {
-        // narrow elements are as many as some words hold
-        let most = (130 / T::BITS as usize).max(4);
+        // narrow elements are as many as some words hold, on both sides
+        let most = (200 / T::BITS as usize).max(4);
         let mut elements: Vec<T> = (0..1 + drawn.below(most)).map(|_| element(&mut drawn)).collect();
-        let other: Vec<T> = (0..2).map(|_| element(&mut drawn)).collect();
-        let (mut bits, other_bits) = (list::<T, O>(&elements), list::<T, O>(&other));
+        let mut other: Vec<T> = (0..1 + drawn.below(most)).map(|_| element(&mut drawn)).collect();
+        let (mut bits, mut other_bits) = (list::<T, O>(&elements), list::<T, O>(&other));
         let (range, beside) = (drawn.range(bits.len()), drawn.range(other_bits.len()));
-        let right = BitSlice::<T, O>::from_slice(&other).into_part(beside.clone());
+        let mut right = BitSliceMut::<T, O>::from_slice_mut(&mut other).into_part(beside.clone());
         let mut view = BitSliceMut::<T, O>::from_slice_mut(&mut elements).into_part(range.clone());
-        match drawn.below(8) {
-            0..=4 => edit(&mut drawn, &mut view, &mut bits[range.clone()], &other_bits[beside], right),
-            5 | 6 => ask(&mut drawn, view.as_ref(), &bits[range.clone()], &other_bits[beside], right),
+        match drawn.below(10) {
+            0..=4 => edit(&mut drawn, &mut view, &mut bits[range.clone()]),
+            5 | 6 => edit_both(&mut drawn, &mut view, &mut bits[range.clone()], &mut right, &mut other_bits[beside.clone()]),
+            7 | 8 => ask(&mut drawn, view.as_ref(), &bits[range.clone()], &other_bits[beside.clone()], right.as_ref()),
             _ if range.is_empty() || range.len() > 128 => {}
-            kind => {
-                number(&mut drawn, view, kind == 7 && call % 2 == 0);
+            _ => {
+                number(&mut drawn, view, call % 2 == 0);
                 let after = list::<T, O>(&elements);
                 bits[range.clone()].copy_from_slice(&after[range.clone()]);
             }
         }
         assert_eq!(list::<T, O>(&elements), bits, "call {call} on {range:?}");
+        assert_eq!(list::<T, O>(&other), other_bits, "call {call} on {range:?} beside {beside:?}");
     }
 }
 
 /// A sequence that grows and shrinks, from the index 3 of its first element on.
 fn sequence<T: BitStore, O: SliceOrder>(seed: u64) -> Result<(), AllocError> {
     let mut drawn = Drawn(seed);
-    let mut bits = BitSlice::<T, O>::from_slice(&[T::ALL]).into_part(3..7).to_bitvec(Global)?;
+    let mut bits = BitSlice::<T, O>::from_slice(&[T::ALL]).into_part(3..7).try_to_bitvec_in(Global)?;
     let mut list = vec![true; 4];
     for _ in 0..CALLS / 4 {
         let (bit, index) = (drawn.bit(), drawn.below(list.len() + 1));
         match drawn.below(17) {
             0..=3 => {
-                bits.push(bit)?;
+                bits.try_push(bit)?;
                 list.push(bit);
             }
             4 => assert_eq!(bits.pop(), list.pop()),
             5 => {
-                bits.insert(index, bit)?;
+                bits.try_insert(index, bit)?;
                 list.insert(index, bit);
             }
             6 if index < list.len() => assert_eq!(bits.remove(index), list.remove(index)),
             7 if index < list.len() => assert_eq!(bits.swap_remove(index), list.swap_remove(index)),
             8 => {
                 let len = drawn.below(200);
-                bits.resize(len, bit)?;
+                bits.try_resize(len, bit)?;
                 list.resize(len, bit);
             }
             9 => {
                 let more: Vec<bool> = (0..drawn.below(70)).map(|_| drawn.bit()).collect();
                 bits.extend(&more);
-                bits.extend_from_bools(&more)?;
+                bits.try_extend_from_bools(&more)?;
                 list.extend(&more);
                 list.extend(&more);
             }
             10 => {
                 let words = [drawn.next(), drawn.next()];
-                bits.extend_from_bitslice(BitSlice::<u64, Msb0>::from_slice(&words).into_part(17..93))?;
+                bits.try_extend_from_bitslice(BitSlice::<u64, Msb0>::from_slice(&words).into_part(17..93))?;
                 list.extend((17..93).map(|place| words[place / 64] >> (63 - place % 64) & 1 == 1));
             }
             11 => {
@@ -260,25 +275,25 @@ fn sequence<T: BitStore, O: SliceOrder>(seed: u64) -> Result<(), AllocError> {
             12 => {
                 bits.retain(|place, bit| *bit || place % 3 == 0);
                 let mut places = 0..;
-                list.retain(|bit| places.next().is_some_and(|place: usize| place % 3 == 0) || *bit);
+                list.retain(|bit| matches!(places.next(), Some(place) if place % 3 == 0) || *bit);
             }
             13 => {
-                let mut rest = bits.split_off(index)?;
-                rest.append(&mut bits)?;
-                bits.append(&mut rest)?;
+                let mut rest = bits.try_split_off(index)?;
+                rest.try_append(&mut bits)?;
+                bits.try_append(&mut rest)?;
                 list.rotate_left(index);
                 assert!(rest.is_empty());
             }
             _ => {
                 let range = drawn.range(list.len());
-                let taken: Vec<bool> = bits.drain(range.clone())?.into_iter().collect();
+                let taken: Vec<bool> = bits.try_drain(range.clone())?.into_iter().collect();
                 assert_eq!(taken, list.drain(range).collect::<Vec<_>>());
             }
         }
         assert!(bits.iter().by_vals().eq(list.iter().copied()));
         // just the elements that the bits touch, with zeros around these
         let elements = bits.as_raw_slice();
-        assert_eq!(elements.len(), (bits.window().start + list.len()).div_ceil(T::BITS as usize));
+        assert_eq!(elements.len(), (bits.window().start + list.len() + T::BITS as usize - 1) / T::BITS as usize);
         assert_eq!(elements.view_bits::<O>().count_ones(), bits.count_ones());
     }
     Ok(())

@@ -56,7 +56,7 @@ pub trait CollectIn: Iterator + Sized {
     fn collect_in<A: Allocator>(self, alloc: A) -> Result<Vec<Self::Item, A>, AllocError> {
         let mut list = Vec::new(alloc);
         for item in self {
-            list.push(item)?;
+            list.try_push(item)?;
         }
         Ok(list)
     }
@@ -68,7 +68,7 @@ impl<I: Iterator> CollectIn for I {}
 pub trait ListCalls<T> {
     fn change<R>(&mut self, change: impl FnOnce(&mut std::vec::Vec<T>) -> R) -> R;
 
-    fn insert(&mut self, index: usize, item: T) -> Result<(), AllocError> {
+    fn try_insert(&mut self, index: usize, item: T) -> Result<(), AllocError> {
         self.change(|list| list.insert(index, item));
         Ok(())
     }
@@ -93,11 +93,11 @@ pub trait ListCalls<T> {
         Ok(())
     }
 
-    fn split_off(&mut self, at: usize) -> Result<Vec<T>, AllocError> {
+    fn try_split_off(&mut self, at: usize) -> Result<Vec<T>, AllocError> {
         Ok(Vec::from(self.change(|list| list.split_off(at))))
     }
 
-    fn append(&mut self, other: &mut Vec<T>) -> Result<(), AllocError> {
+    fn try_append(&mut self, other: &mut Vec<T>) -> Result<(), AllocError> {
         let items = std::mem::replace(other, Vec::new(Global)).into_std();
         self.change(|list| list.extend(items));
         Ok(())
@@ -110,5 +110,21 @@ impl<T> ListCalls<T> for Vec<T> {
         let result = change(&mut list);
         *self = Vec::from(list);
         result
+    }
+}
+
+/// Walks over slices, whose names are in the package those of the walks that lend.
+pub trait SliceCalls<T> {
+    fn lending_iter_mut(&mut self) -> std::slice::IterMut<'_, T>;
+    fn lending_chunks_mut(&mut self, size: usize) -> std::slice::ChunksMut<'_, T>;
+}
+
+impl<T> SliceCalls<T> for [T] {
+    fn lending_iter_mut(&mut self) -> std::slice::IterMut<'_, T> {
+        self.iter_mut()
+    }
+
+    fn lending_chunks_mut(&mut self, size: usize) -> std::slice::ChunksMut<'_, T> {
+        self.chunks_mut(size)
     }
 }

@@ -81,11 +81,11 @@ macro_rules! assert_lends {
 fn nothing_is_lent_behind_the_end_of_a_walk() {
     let mut bytes = BYTES;
     let mut view = BitSliceMut::<u8, Lsb0>::from_slice_mut(&mut bytes).into_part(3..11);
-    assert_lends!(view, iter_mut(), 8);
-    assert_lends!(view, chunks_exact_mut(3), 2);
-    assert_lends!(view, rchunks_exact_mut(3), 2);
-    assert_lends!(view, chunks_mut(3), 3);
-    assert_lends!(view, rchunks_mut(3), 3);
+    assert_lends!(view, lending_iter_mut(), 8);
+    assert_lends!(view, lending_chunks_exact_mut(3), 2);
+    assert_lends!(view, lending_rchunks_exact_mut(3), 2);
+    assert_lends!(view, lending_chunks_mut(3), 3);
+    assert_lends!(view, lending_rchunks_mut(3), 3);
 }
 
 /// Asserts that a split of 0, 1, 0 at its one gives two pieces from either end, and then nothing from either end.
@@ -120,13 +120,18 @@ fn nothing_comes_behind_the_end_of_a_split() {
     assert_splits!(view.as_ref(), split, next, next_back);
     assert_splits!(view.as_ref(), split_inclusive, next, next_back);
     assert_splits!(view.as_ref(), rsplit, next, next_back);
-    assert_splits!(view, split_mut, next_mut, next_back_mut);
-    assert_splits!(view, split_inclusive_mut, next_mut, next_back_mut);
-    assert_splits!(view, rsplit_mut, next_mut, next_back_mut);
+    assert_splits!(view, lending_split_mut, next_mut, next_back_mut);
+    assert_splits!(view, split_mut, next, next_back);
+    assert_splits!(view, lending_split_inclusive_mut, next_mut, next_back_mut);
+    assert_splits!(view, split_inclusive_mut, next, next_back);
+    assert_splits!(view, lending_rsplit_mut, next_mut, next_back_mut);
+    assert_splits!(view, rsplit_mut, next, next_back);
     assert_splits_at_most!(view.as_ref(), splitn, next);
     assert_splits_at_most!(view.as_ref(), rsplitn, next);
-    assert_splits_at_most!(view, splitn_mut, next_mut);
-    assert_splits_at_most!(view, rsplitn_mut, next_mut);
+    assert_splits_at_most!(view, lending_splitn_mut, next_mut);
+    assert_splits_at_most!(view, splitn_mut, next);
+    assert_splits_at_most!(view, lending_rsplitn_mut, next_mut);
+    assert_splits_at_most!(view, rsplitn_mut, next);
 }
 
 // The bits are 0, 1, 0, 0, 1.
