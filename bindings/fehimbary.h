@@ -57,6 +57,25 @@ enum {
 
 #define FB_MAX_BITS (SIZE_MAX / 8)
 
+/* The name of a status, as "FB_RANGE". */
+static inline const char *fb_status_text(fb_status status) {
+    static const char *const names[] = {"FB_DONE",   "FB_RANGE", "FB_INDEX", "FB_AMOUNT", "FB_SOURCE",
+                                        "FB_DEST",   "FB_RIGHT", "FB_LENGTH", "FB_WIDTH", "FB_ORDER",
+                                        "FB_SIZE",   "FB_NONE",  "FB_OP",    "FB_ROOM",   "FB_STEP"};
+    return status < sizeof names / sizeof *names ? names[status] : "no status";
+}
+
+/* A compiler warns where a call's status is dropped. `-DFB_NODISCARD=` asks for no warning. */
+#ifndef FB_NODISCARD
+#if (defined(__cplusplus) && __cplusplus >= 201703L) || (defined(__STDC_VERSION__) && __STDC_VERSION__ > 201710L)
+#define FB_NODISCARD [[nodiscard]]
+#elif defined(__GNUC__)
+#define FB_NODISCARD __attribute__((warn_unused_result))
+#else
+#define FB_NODISCARD
+#endif
+#endif
+
 #define FEHIMBARY_VERSION "0.2.0"
 
 /* The parameters that windows of elements of a type are passed by: one that is read, one that is written, and a right one
@@ -73,16 +92,16 @@ enum {
 
 /* FB_DECLARE(fill, FB_EDITED, bool bit) declares fb_u8_fill, fb_u16_fill, fb_u32_fill and fb_u64_fill; without further
  * parameters FB_DECLARE_PLAIN does. */
-#define FB_DECLARE(stem, WINDOW, ...)                           \
-    fb_status fb_u8_##stem(WINDOW(uint8_t), __VA_ARGS__);       \
-    fb_status fb_u16_##stem(WINDOW(uint16_t), __VA_ARGS__);     \
-    fb_status fb_u32_##stem(WINDOW(uint32_t), __VA_ARGS__);     \
-    fb_status fb_u64_##stem(WINDOW(uint64_t), __VA_ARGS__);
-#define FB_DECLARE_PLAIN(stem, WINDOW)            \
-    fb_status fb_u8_##stem(WINDOW(uint8_t));      \
-    fb_status fb_u16_##stem(WINDOW(uint16_t));    \
-    fb_status fb_u32_##stem(WINDOW(uint32_t));    \
-    fb_status fb_u64_##stem(WINDOW(uint64_t));
+#define FB_DECLARE(stem, WINDOW, ...)                                       \
+    FB_NODISCARD fb_status fb_u8_##stem(WINDOW(uint8_t), __VA_ARGS__);      \
+    FB_NODISCARD fb_status fb_u16_##stem(WINDOW(uint16_t), __VA_ARGS__);    \
+    FB_NODISCARD fb_status fb_u32_##stem(WINDOW(uint32_t), __VA_ARGS__);    \
+    FB_NODISCARD fb_status fb_u64_##stem(WINDOW(uint64_t), __VA_ARGS__);
+#define FB_DECLARE_PLAIN(stem, WINDOW)                        \
+    FB_NODISCARD fb_status fb_u8_##stem(WINDOW(uint8_t));     \
+    FB_NODISCARD fb_status fb_u16_##stem(WINDOW(uint16_t));   \
+    FB_NODISCARD fb_status fb_u32_##stem(WINDOW(uint32_t));   \
+    FB_NODISCARD fb_status fb_u64_##stem(WINDOW(uint64_t));
 
 /* ---- Single bits ---- */
 

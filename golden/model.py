@@ -1,4 +1,4 @@
-"""A model of `bitdo`: its commands on a plain list of truth values, as docs/RUNS.md and `Op` of docs/reference/runs.md say them.
+"""A model of `bitdo`: its commands on a plain list of truth values, as docs/RUNS.md and `Op` of `bitvec_commands` say them.
 
 It has no words and no masks, and was written from these two pages, so that it shares no slip with the program."""
 

@@ -52,7 +52,7 @@ void expect_status(fb_status wanted, const std::string &name, Call call) {
         call();
     } catch (const fehimbary::Refused &refused) {
         status = refused.status();
-        expect(std::string(refused.what()) == fehimbary::name_of(status), "the name of a status");
+        expect(std::string(refused.what()).rfind(fb_status_text(status) + std::string(": "), 0) == 0, "the name of a status");
     }
     expect(status == wanted, "the status of " + name);
 }

@@ -4,13 +4,16 @@
 
 int main(void) {
     uint64_t seats[4] = {0};
-    size_t seat, taken;
-    fb_u64_fill(FB_LSB0, seats, 4, 0, 50, true);
-    if (fb_u64_first_zero(FB_LSB0, seats, 4, 0, 200, &seat) == FB_DONE)
-        fb_u64_set(FB_LSB0, seats, 4, 0, 200, seat, true);
-    fb_u64_count_ones(FB_LSB0, seats, 4, 0, 200, &taken);
-    printf("took %zu, %zu are taken\n", seat, taken);
-    if (fb_u64_fill(FB_LSB0, seats, 4, 200, 57, true) == FB_RANGE)
-        printf("there are no 257 seats\n");
+    size_t seat = 0, taken = 0;
+    fb_status said = fb_u64_fill(FB_LSB0, seats, 4, 0, 50, true);
+    if (said == FB_DONE)
+        said = fb_u64_first_zero(FB_LSB0, seats, 4, 0, 200, &seat);
+    if (said == FB_DONE)
+        said = fb_u64_set(FB_LSB0, seats, 4, 0, 200, seat, true);
+    if (said == FB_DONE)
+        said = fb_u64_count_ones(FB_LSB0, seats, 4, 0, 200, &taken);
+    printf("%s: took %zu, %zu are taken\n", fb_status_text(said), seat, taken);
+    said = fb_u64_fill(FB_LSB0, seats, 4, 200, 57, true);
+    printf("%s: there are no 257 seats\n", fb_status_text(said));
     return 0;
 }

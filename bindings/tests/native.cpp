@@ -9,6 +9,8 @@
 #include <numeric>
 #include <sstream>
 #include <string>
+#include <unordered_map>
+#include <unordered_set>
 #include <vector>
 
 namespace {
@@ -49,12 +51,17 @@ static_assert(std::is_constructible_v<Seen, const std::vector<uint8_t> &> && std
 static_assert(std::is_constructible_v<View, Own &> && std::is_constructible_v<Seen, const Own &> && !std::is_constructible_v<View, const Own &>);
 static_assert(!std::is_convertible_v<Own, Seen> && !std::is_constructible_v<Seen, Own> && !std::is_constructible_v<View, Own>,
               "bits that end with the call");
-static_assert(std::is_nothrow_move_constructible_v<Own> && std::is_nothrow_move_assignable_v<Own>);
+static_assert(std::is_nothrow_move_constructible_v<Own> && std::is_nothrow_move_assignable_v<Own> && std::is_nothrow_swappable_v<Own>);
+static_assert(noexcept(Own().size()) && noexcept(Own().count()) && noexcept(Own().flip()) && noexcept(View().begin()) && noexcept(View().any()));
+static_assert(noexcept(*View().begin()) && noexcept(Own() == Own()) && noexcept(Own().clear()) && !noexcept(Own().push_back(true)) &&
+              !noexcept(View()[0]) && !noexcept(View() |= View()));
+static_assert(std::is_same_v<decltype(std::declval<const Own &>()[0]), bool> && std::is_same_v<Own::iterator, View::iterator>);
 #if __cplusplus >= 202002L
 template <class Bits>
 concept HasView = requires(Bits &&bits) { std::forward<Bits>(bits).view(); std::forward<Bits>(bits).begin(); };
 static_assert(HasView<Own &> && HasView<const Own &> && !HasView<Own> && !HasView<const Own>, "bits that end with the call");
-static_assert(std::ranges::random_access_range<Own &>);
+static_assert(std::ranges::random_access_range<Own &> && std::ranges::random_access_range<const Own &>);
+static_assert(std::three_way_comparable<Own> && std::three_way_comparable<View> && std::totally_ordered<Seen>);
 static_assert(std::random_access_iterator<View::iterator> && std::random_access_iterator<Seen::iterator>);
 static_assert(std::indirectly_writable<View::iterator, bool> && !std::indirectly_writable<Seen::iterator, bool>);
 static_assert(std::ranges::view<View> && std::ranges::random_access_range<View> && std::ranges::sized_range<View>);
@@ -118,6 +125,7 @@ void algorithms() {
     std::fill_n(view.begin(), 2, true);
     std::copy(view.begin(), view.begin() + 4, view.begin() + 5);
     memory.check("11011110100111", "std::copy");
+    expect(count(view.begin(), view.end(), 1) == 10 && find(view.cbegin(), view.cend(), false) == view.begin() + 2, "without std::");
     bool bit = false;
     swap(view[0], bit);
     std::iter_swap(view.begin() + 1, view.begin() + 2);
@@ -305,6 +313,135 @@ void own_bits() {
     expect(wide.view().load_be() == 3, "bits of other elements");
 }
 
+// What std::vector<bool> has.
+void as_a_vector() {
+    Own bits("0110");
+    bits.assign(3, true);
+    expect(bits == Own("111"), "bits of one value assigned");
+    bits.assign({false, true});
+    expect(bits == Own("01") && !bits.front() && bits.back() && bits.at(1) && !std::as_const(bits).at(0), "bits assigned");
+    expect(*bits.rbegin() && bits.rend() - bits.rbegin() == 2 && !*(bits.crend() - 1), "bits from the last on");
+    expect(bits.insert(bits.begin() + 1, true) - bits.begin() == 1 && bits == Own("011"), "a bit before a place");
+    expect(bits.insert(bits.cend(), 3, false) - bits.begin() == 3 && bits == Own("011000"), "bits before a place");
+    expect(bits.insert(bits.begin(), bits.rbegin(), bits.rend()) == bits.begin() && bits == Own("000110011000"), "its own bits before a place");
+    expect(bits.insert(bits.begin() + 4, {false, true}) - bits.begin() == 4 && bits == Own("00010110011000"), "bits of a list");
+    expect(bits.erase(bits.begin() + 3) - bits.begin() == 3 && bits == Own("0000110011000"), "a bit taken away at a place");
+    expect(bits.erase(bits.cbegin() + 4, bits.cend() - 1) - bits.begin() == 4 && bits == Own("00000"), "bits taken away between places");
+    bits.erase(bits.end(), bits.end());
+    bits.front() = true;
+    bits.back() = bits.front();
+    Own other("1");
+    swap(bits, other);
+    bits.swap(other);
+    std::swap(bits, other);
+    expect(bits == Own("1") && other == Own("10001"), "bits swapped");
+    std::swap(other[0], other[1]);
+    swap(other[4], other[3]);
+    expect(other == Own("01010"), "references swapped");
+    bits.reserve(1000);
+    bits.shrink_to_fit();
+    expect(bits.capacity() == 8 && bits.max_size() > 1000 && bits == Own("1"), "no more room than there has to be");
+    other.data()[0] = 0x12;
+    expect(other == Own("01001") && std::as_const(other).data() == other.data(), "the elements of bits");
+    Own &same = other;
+    other = std::move(same);
+    expect(other == Own("01001") && other.size() == 5 && other.count_ones() == 2, "bits moved to themselves");
+    expect_refused(FB_INDEX, [&] { Own().front(); });
+    expect_refused(FB_INDEX, [&] { std::as_const(other).back() ? Own().back() : Own().at(0); });
+    expect_refused(FB_INDEX, [&] { other.erase(other.end()); });
+    expect_refused(FB_RANGE, [&] { other.erase(other.end(), other.begin()); });
+    expect_refused(FB_RANGE, [&] { View(other.end(), other.begin()); });
+}
+
+// What boost::dynamic_bitset has.
+void as_a_bitset() {
+    Own bits(5);
+    expect(bits.set().count() == 5 && bits.all() && bits.reset().none() && bits.flip().count_zeros() == 0, "all bits");
+    expect(bits.reset(1).flip(2).set(2, false).flip(4).set(4) == Own("10011"), "bits by their indices");
+    expect(bits.first_one() == 0 && bits.first_zero() == 1 && bits.last_one() == 4 && bits.last_zero() == 2, "searches");
+    const auto ones = bits.ones();
+    expect(std::vector<size_t>(ones.begin(), ones.end()) == std::vector<size_t>{0, 3, 4}, "the ones");
+    expect((bits - Own("10010")) == Own("00001") && ((bits -= Own("1")) == Own("00011")), "- and -=");
+    expect(bits.is_subset_of(Own("10011")) && bits.intersects(Own("00001")) && !bits.intersects(Own("111")), "subsets");
+    Memory memory;
+    memory.view.set();
+    memory.check("11111111111111", "all bits of a view");
+    memory.view.flip();
+    memory.check("00000000000000", "all bits of a view flipped");
+    memory.view.flip();
+    memory.view.reset();
+    expect(memory.view.count() == 0, "no bits of a view");
+    std::istringstream text(" 0101x11 2");
+    Own read("1"), more, none("11");
+    char behind = 0;
+    text >> read >> behind >> more;
+    expect(read == Own("0101") && behind == 'x' && more == Own("11") && !(text >> none) && none.empty(), "bits read from a stream");
+    std::istringstream wide("11111");
+    wide.width(3);
+    expect(wide >> read && read == Own("111") && wide.peek() == '1' && wide >> read && read == Own("11") && wide.eof(), "so many bits of a stream");
+}
+
+// Bits of other elements, or of the other order, as words in a dictionary.
+void other_elements() {
+    const OwnBits<uint64_t, Msb0> wide("0110100010110");
+    Memory memory;
+    expect(memory.view != wide && memory.view > wide && wide < memory.view && memory.view.part(0, 13) == wide, "bits of other elements");
+    expect(Own(wide) == memory.view.part(0, 13) && OwnBits<uint16_t, Msb0>(memory.view).to_string() == "01101000101100", "bits converted");
+    const std::string digits = std::string(64, '0') + "1" + std::string(70, '0');
+    const OwnBits<uint32_t> some(digits), less(std::string(65, '0'));
+    expect((OwnBits<uint16_t, Msb0>(some) == some) && OwnBits<uint16_t, Msb0>(some).to_string() == digits && Own(less) < some, "many bits converted");
+#ifdef __cpp_lib_three_way_comparison
+    expect((some <=> less) > 0 && (wide <=> memory.view) < 0 && (some <=> some) == 0 && (Own("1") <=> Own("0")) > 0, "<=>");
+#endif
+}
+
+void hashes() {
+    std::unordered_set<Own> set{Own("01"), Own("010"), Own("01")};
+    std::unordered_map<OwnBits<uint64_t, Msb0>, int> map{{OwnBits<uint64_t, Msb0>("1"), 1}};
+    expect(set.size() == 2 && set.count(Own("010")) == 1 && map.count(OwnBits<uint64_t, Msb0>("10")) == 0 && map.count(OwnBits<uint64_t, Msb0>("1")) == 1, "a hash");
+    Own grown(9, true);
+    grown.resize(2); // what stands behind the bits has no part in it
+    expect(std::hash<Own>()(grown) == std::hash<Own>()(Own("11")), "the hash of fewer bits");
+    const uint8_t elements[] = {0x0F, 0x1E};
+    const Seen seen(elements);
+    Own same("11110000");
+    expect(std::hash<Seen>()(seen.part(0, 7)) == std::hash<Seen>()(seen.part(9, 16)), "the hash of a part");
+    expect(std::hash<Seen>()(seen.part(0, 8)) == std::hash<View>()(same.view()), "the hash of a view");
+}
+
+template <class Call>
+void expect_said(const std::string &wanted, Call call) {
+    try {
+        call();
+    } catch (const fehimbary::Refused &refused) {
+        return expect(refused.what() == wanted, refused.what());
+    }
+    expect(false, "a call that is to be refused");
+}
+
+void what_is_refused() {
+    Memory memory;
+    const View view = memory.view;
+    expect_said("FB_INDEX: 14 of 14 bits", [&] { view[14] = true; });
+    expect_said("FB_INDEX: 15 of 14 bits", [&] { view.swap_bits(3, 15); });
+    expect_said("FB_INDEX: 0 of 0 bits", [&] { Own().pop_back(); });
+    expect_said("FB_INDEX: 3 of 2 bits", [&] { Own("01").insert(3, true); });
+    expect_said("FB_INDEX: 15 of 14 bits", [&] { view.ones(15, nullptr, 0); });
+    expect_said("FB_RANGE: 3 to 15 of 14 bits", [&] { view.part(3, 15); });
+    expect_said("FB_AMOUNT: 15 of 14 bits", [&] { view.rotate_left(15); });
+    expect_said("FB_SOURCE: 15 of 14 bits", [&] { view.copy_within(3, 15, 0); });
+    expect_said("FB_DEST: 9 of 14 bits", [&] { view.copy_within(3, 10, 9); });
+    expect_said("FB_LENGTH: 3 of 14 bits", [&] { view.copy_from(Own("011")); });
+    expect_said("FB_STEP: 0 of 14 bits", [&] { view.fill_step(0, true); });
+    expect_said("FB_WIDTH: of 0 bits", [&] { view.part(3, 3).load_le(); });
+    memory.check("01101000101100", "bits after refused calls");
+    const std::string names[] = {"FB_DONE",  "FB_RANGE", "FB_INDEX", "FB_AMOUNT", "FB_SOURCE", "FB_DEST", "FB_RIGHT", "FB_LENGTH",
+                                 "FB_WIDTH", "FB_ORDER", "FB_SIZE",  "FB_NONE",   "FB_OP",     "FB_ROOM", "FB_STEP",  "no status"};
+    for (fb_status status = FB_DONE; status <= FB_STEP + 1; ++status)
+        expect(names[status] == fb_status_text(status) && names[status] == fehimbary::name_of(status), "the name of a status");
+    expect(fb_status_text(FB_INDEX) == std::string("FB_INDEX") && fb_status_text(~fb_status(0)) == std::string("no status"), "the name of a status");
+}
+
 template <class Element>
 void elements_of_a_type() {
     Element memory[3] = {};
@@ -341,5 +478,10 @@ int main() {
     two_windows();
     overlapping();
     own_bits();
+    as_a_vector();
+    as_a_bitset();
+    other_elements();
+    hashes();
+    what_is_refused();
     types();
 }

@@ -34,7 +34,7 @@ def use(memory):
     bits, other = Bits(memory), Bits(bytearray(memory), Msb0)
     for call in (lambda: bits[9999], lambda: bits[::0], lambda: bits.__setitem__(0, 2), lambda: bits.rotate_left(-1),
                  lambda: bits[:3].copy_from(other), lambda: bits.swap(other), lambda: memoryview(bits[1:]), lambda: Bits(bits[1:]),
-                 lambda: Bits.from_string("012"), lambda: Bits.from_bools([0, 2]), lambda: Bits(array("b")), lambda: Bits("0"),
+                 lambda: Bits.from_string("012"), lambda: Bits.from_bools([0, 2]), lambda: Bits(array("b")), lambda: Bits("2"),
                  lambda: Bits(memory, 3), lambda: bits.run(Bits(b""), [Step(99, 0, 0)]), lambda: bits.load_le()):
         try:
             call()
@@ -102,7 +102,7 @@ class Memories(unittest.TestCase):
         self.assertEqual(bytes(Bits(array("H", [1, 2, 3]))[16:]), array("H", [2, 3]).tobytes())
         self.assertEqual((bytes(Bits.from_string("101")), numpy.frombuffer(Bits(b"\x05"), "u1").tolist()), (b"\x05", [5]))
         self.assertEqual(bytes(memoryview(Bits(b"")[:0])), b"")
-        for bits in (Bits(bytearray(2))[1:], Bits(bytearray(2))[:9], Bits(array("H", [1, 2]))[8:], Bits.zeros(9)[:4]):
+        for bits in (Bits(bytearray(2))[1:], Bits(bytearray(2))[:9], Bits(array("H", [1, 2]))[8:], Bits.zeros(9)[:4], Bits.zeros(9)):
             self.assertRaises(BufferError, memoryview, bits)
         self.assertTrue(memoryview(Bits(b"12")).readonly)
         self.assertRaises(TypeError, memoryview(Bits(b"12")).__setitem__, 0, 1)
@@ -154,6 +154,10 @@ class Memories(unittest.TestCase):
         bits = Bits(bytearray(8))
         for _ in range(10**6):
             bits = Bits(bits)
+        for other in (memoryview, numpy.frombuffer):
+            bits = Bits(bytearray(8))
+            for _ in range(10**5 if other is memoryview else 10**4):
+                bits = Bits(other(bits) if other is memoryview else other(bits, "u1"))
         del bits
         bits = Bits.zeros(64)
         self.assertRaises(TypeError, bits.__init__, bits)
@@ -172,7 +176,7 @@ class Memories(unittest.TestCase):
     def test_arrays_of_numpy(self):
         bits = Bits(bytearray(b"\x01\x02"))
         self.assertEqual(numpy.array(bits[:8]).tolist(), [1])
-        for part in (bits[:7], bits[1:]):
+        for part in (bits[:7], bits[1:], Bits.zeros(9)):
             self.assertRaisesRegex(TypeError, "to_numpy", numpy.array, part)
             self.assertRaisesRegex(TypeError, "to_numpy", numpy.asarray, part, bool)
 
@@ -194,11 +198,18 @@ class Conversions(unittest.TestCase):
                 self.assertEqual((str(bits), bits.to_numpy().tolist(), bits.to_numpy().dtype), (text, array_of_bits.tolist(), bool))
         Bits.zeros(3).to_numpy()[0] = True
         self.assertEqual(str(Bits.from_numpy(numpy.array([1, 0, 0, 1], bool)[::3])), "11")
-        for wrong in (numpy.zeros(3, "u1"), numpy.zeros((2, 2), bool)):
+        for kind in ("u1", "i8", "u4"):
+            self.assertEqual(str(Bits.from_numpy(numpy.array([0, 1, 1, 0, 1], kind), Msb0)), "01101")
+            self.assertRaises(ValueError, Bits.from_numpy, numpy.array([0, 1, 2], kind))
+        for wrong in (numpy.zeros(3), numpy.zeros((2, 2), bool), numpy.zeros(3, "S1")):
             self.assertRaises(TypeError, Bits.from_numpy, wrong)
+        for start, stop in ((0, 9), (3, 3), (5, 40), (8, 16)):
+            part = Bits(bytearray(b"\x12\x34\x56\x78\x9a"), Msb0)[start:stop]
+            self.assertEqual(part.to_numpy().tolist(), [digit == "1" for digit in f"{0x123456789a:040b}"[start:stop]])
 
     def test_texts_and_truths(self):
         self.assertEqual(repr(Bits.from_string("01 0\n1", Msb0)), "Bits('0101', Msb0, u8)")
+        self.assertEqual((str(Bits.from_string(numpy.str_("0 1"))), str(Bits.zeros(1) + numpy.str_("11"))), ("01", "011"))
         self.assertEqual((Bits.from_bools([True, 0, numpy.True_]).tolist(), Bits.zeros(3).tolist()), ([True, False, True], 3 * [False]))
         for text in ("2", "0_1", "+1", "0x1", "0b1", "٠١"):
             self.assertRaises(ValueError, Bits.from_string, text)
@@ -239,7 +250,7 @@ class Hostile(unittest.TestCase):
             for call in (lambda: bits[index], lambda: bits.__setitem__(index, 1), lambda: bits.replace(index, 1),
                          lambda: bits.swap_bits(0, index)):
                 self.assertRaises(RefusedIndex, call)
-        for wrong in ("0", 1.0, None, bits, (0,)):
+        for wrong in ("0", 1.0, None, {0}, (0,)):
             self.assertRaises(TypeError, lambda: bits[wrong])
         for part in (slice(2**200), slice(-(2**200), None), slice(None, None, 1)):
             self.assertEqual(len(bits[part]), 64)
@@ -314,7 +325,7 @@ class Hostile(unittest.TestCase):
 
     def test_memories_that_are_none(self):
         for memory in (numpy.zeros((4, 4), "u1")[:, 1:3], numpy.zeros(4, "u1")[::-1], numpy.zeros((2, 2), "u2").T, numpy.zeros(2, "i8"),
-                       numpy.zeros(2, "c16"), numpy.zeros(2, "S3"), numpy.zeros(2, "u1,u2"), array("d", [1]), array("u", "a"), 5, None):
+                       numpy.zeros(2, "c16"), numpy.zeros(2, "S3"), numpy.zeros(2, "u1,u2"), array("d", [1]), array("u", "a"), 5.0, True, None):
             with self.assertRaises(TypeError):
                 Bits(memory)
         self.assertRaises(TypeError, Bits)
@@ -367,6 +378,45 @@ class Threads(unittest.TestCase):
             alone[turn % 64] ^= True
             alone[0] ^= True
         self.assertEqual((failed, [bits[64 * number : 64 * (number + 1)] == alone for number in range(4)]), ([], 4 * [True]))
+
+    def test_the_lock_is_given_back(self):
+        """Other threads run while a long call does; a length is refused meanwhile, and no answer is wrong."""
+        bits, other, needle = Bits.zeros(2**24), Bits.zeros(2**24), Bits.zeros(2**12)
+        needle[-1] = True
+        calls = {
+            "find": lambda: bits.find(needle) is None, "count": lambda: bits.count_ones() == 0, "copy": lambda: len(bits.copy()) == 2**24,
+            "and": lambda: not (bits & other).any(), "fill": lambda: not bits.fill(False).any(), "reverse": lambda: not bits.reverse().any(),
+            "str": lambda: str(bits[: 2**20]).count("1") == 0, "indices": lambda: len(bits.indices()) == 0, "==": lambda: bits == other,
+        }
+        for name, call in calls.items():
+            ended, refused = threading.Event(), [0]
+
+            def watch():
+                while not ended.is_set():
+                    try:
+                        bits.append(True)
+                        bits.pop()
+                    except BufferError:
+                        refused[0] += 1
+                    time.sleep(0.0001)
+
+            interval = sys.getswitchinterval()
+            sys.setswitchinterval(1000)  # so that a thread runs only where another one gives the lock back
+            thread = threading.Thread(target=watch)
+            try:
+                thread.start()
+                began = time.perf_counter()
+                answers = []
+                while not refused[0] and time.perf_counter() - began < 20:
+                    answers.append(call())
+                self.assertTrue(all(answers), name)
+                self.assertTrue(refused[0], name)
+            finally:
+                ended.set()
+                sys.setswitchinterval(interval)
+                thread.join()
+            if len(bits) != 2**24:
+                bits.resize(2**24)
 
 
 if __name__ == "__main__":

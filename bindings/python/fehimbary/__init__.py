@@ -10,9 +10,12 @@
 What each method costs is said at the C function of its name (fehimbary.h).
 """
 
-from .bits import Bits, __version__
+from collections.abc import MutableSequence
+
+from .bits import Bits, FrozenBits, __version__
 from .codes import Lsb0, Msb0, Order, ReadOnly, Refused, RefusedIndex, Status
-from .frozen import FrozenBits
 from .runs import Op, Reply, Step
 
 __all__ = ["Bits", "FrozenBits", "Lsb0", "Msb0", "Op", "Order", "ReadOnly", "Refused", "RefusedIndex", "Reply", "Status", "Step"]
+
+MutableSequence.register(Bits)

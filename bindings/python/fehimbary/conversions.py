@@ -1,30 +1,24 @@
-"""Bits as texts, numbers of any size, hexadecimal digits and arrays of numpy: methods of Bits."""
+"""Bits as texts, numbers of any size, hexadecimal digits, tables and arrays of numpy: methods of Bits."""
 
 from __future__ import annotations
 
-from typing import TYPE_CHECKING, Any, SupportsIndex
+from typing import TYPE_CHECKING, Any
 
 from .codes import Lsb0, Order
 
 if TYPE_CHECKING:
     import numpy
-    from _typeshed import ReadableBuffer
     from numpy.typing import NDArray
 
-    from .bits import Bits
+    from .bits import Bits, Own
 
 
 def side(order: Order) -> Any:
     """The byte order, or the bit order of numpy, that begins as an order does."""
-    return ("little", "big")[Order(order)]
+    return "little" if order == Lsb0 else "big"
 
 
-def from_bytes(cls: type[Bits], data: ReadableBuffer, order: Order = Lsb0) -> Bits:
-    """The bits of bytes, in bytes of their own."""
-    return cls.zeros(0, order) + memoryview(data)
-
-
-def from_hex(cls: type[Bits], text: str, order: Order = Lsb0) -> Bits:
+def from_hex(cls: type[Own], text: str, order: Order = Lsb0) -> Own:
     """The bits of bytes, of each of which a text has two hexadecimal digits, in bytes of their own."""
     return cls.from_bytes(bytes.fromhex(text), order)
 
@@ -34,30 +28,21 @@ def to_hex(bits: Bits) -> str:
     return bits.to_bytes().hex()
 
 
-def from_int(cls: type[Bits], number: SupportsIndex, length: SupportsIndex, order: Order = Lsb0) -> Bits:
-    """A number of any size, in bytes of their own, as to_int reads it. OverflowError: it takes more bits, or is below 0."""
-    value, size = number.__index__(), length.__index__()
-    if value < 0 or size < 0 or value.bit_length() > size:
-        raise OverflowError(f"{value} isn't a number of {size} bits")
-    made = cls.from_bytes((value if order == Lsb0 else value << -size % 8).to_bytes(-(size // -8), side(order)), order)
-    return made if len(made) == size else made[:size].copy()
+def from_numpy(cls: type[Own], bits: NDArray[Any], order: Order = Lsb0) -> Own:
+    """The bits of an array of numpy.bool_, or of numbers that are 0 or 1, in bytes of their own.
 
-
-def to_int(bits: Bits) -> int:
-    """The number whose digits the bits are: under Lsb0 the first is the lowest one, and under Msb0 the last."""
-    number = int.from_bytes(bits.to_bytes(), side(bits.order))
-    return number if bits.order == Lsb0 else number >> -len(bits) % 8
-
-
-def from_numpy(cls: type[Bits], bits: NDArray[numpy.bool_], order: Order = Lsb0) -> Bits:
-    """The bits of an array of numpy.bool_, in bytes of their own. TypeError: it has other elements, or more dimensions."""
+    TypeError: it has other elements, or more dimensions; ValueError: it has other numbers.
+    """
     import numpy
 
     bits = numpy.asarray(bits)
-    if bits.dtype != bool or bits.ndim != 1:
-        raise TypeError(f"an array of {bits.ndim} dimensions of {bits.dtype}, and not one of bool")
-    made = cls.from_bytes(numpy.packbits(bits, bitorder=side(order)).tobytes(), order)
-    return made if len(made) == len(bits) else made[: len(bits)].copy()
+    if bits.dtype.kind not in "biu" or bits.ndim != 1:
+        raise TypeError(f"an array of {bits.ndim} dimensions of {bits.dtype}, and not one of bool or integers")
+    if bits.dtype != bool and ((bits != 0) & (bits != 1)).any():
+        raise ValueError("an array that has other numbers than 0 and 1")
+    from .bits import restored
+
+    return restored(numpy.packbits(bits.astype(bool, copy=False), bitorder=side(order)).data, len(bits), order, 8, cls)
 
 
 def to_numpy(bits: Bits) -> NDArray[numpy.bool_]:
@@ -68,16 +53,23 @@ def to_numpy(bits: Bits) -> NDArray[numpy.bool_]:
     return numpy.unpackbits(data, count=len(bits), bitorder=side(bits.order)).view(numpy.bool_)
 
 
-def digits(bits: Bits) -> str:
-    """The bits as digits."""
-    data = bits.to_bytes()
-    text = f"{int.from_bytes(data, side(bits.order)):0{8 * len(data)}b}"
-    return (text[::-1] if bits.order == Lsb0 else text)[: len(bits)]
+def fours(text: str) -> str:
+    """Digits, with a space behind each four."""
+    return " ".join(text[place : place + 4] for place in range(0, len(text), 4))
 
 
 def shown(bits: Bits) -> str:
     """The first bits as digits, how many there are, and what kind of bits they are."""
-    text = digits(bits[:64])
-    fours = " ".join(text[place : place + 4] for place in range(0, len(text), 4))
     more = f" ..', {len(bits)} bits" if len(bits) > 64 else "'"
-    return f"{type(bits).__name__}('{fours}{more}, {bits.order.name}, u{bits.width})"
+    return f"{type(bits).__name__}('{fours(str(bits[:64]))}{more}, {bits.order.name}, u{bits.width})"
+
+
+def table(bits: Bits) -> str:
+    """The bits as a table for a notebook: a row for each of the first elements, with the index of its first bit."""
+    rows = [
+        f"<tr><th>{place}</th><td><code>{fours(str(bits[place : min(place + bits.width, len(bits))]))}</code></td></tr>"
+        for place in range(0, min(len(bits), 32 * bits.width), bits.width)
+    ]
+    more = "<tr><th>..</th><td></td></tr>" if len(rows) * bits.width < len(bits) else ""
+    kind = f"{type(bits).__name__}, {len(bits)} bits, {bits.order.name}, u{bits.width}"
+    return f"<table><caption>{kind}</caption>{''.join(rows)}{more}</table>"
