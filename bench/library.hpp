@@ -1,5 +1,6 @@
 // The library by element type and order: the functions of bindings/fehimbary.h, called so that none refuses.
 #pragma once
+#define FB_NODISCARD
 #include "../bindings/fehimbary.hpp"
 #include <cstddef>
 #include <cstdint>

@@ -212,7 +212,7 @@ impl Size {
         let bit = |index: usize| index % 3 == 0;
         self.row("push, each", "fehimbary", || {
             let mut made = BitVec::<u64, Lsb0>::new();
-            (0..bits).for_each(|index| made.push(bit(index)).expect("memory"));
+            (0..bits).for_each(|index| made.push(bit(index)));
             black_box(made);
         });
         self.row("push, each", "bit-vec", || {

@@ -8,6 +8,7 @@ import subprocess
 import sys
 import tarfile
 
+import keeping
 import library
 from library import FORMAT, LIST, ROOTS, TOP, Progress, Refused, member
 
@@ -16,7 +17,8 @@ ZIP = ["zstd", "-q", "-T0", "-9", "--long=27", "-c"]
 
 
 def build(lines):
-    """Has `rt` build what isn't built."""
+    """Has `rt` build what neither is built nor was kept by its gate."""
+    keeping.lay_kept()
     for root in ROOTS:
         if root in lines and subprocess.run(["rt", "lib"], cwd=TOP / "crates" / root, stdout=sys.stderr).returncode:
             raise Refused(f"rt lib doesn't build {root}")
@@ -52,6 +54,13 @@ def add(tar, name, data):
     entry = tarfile.TarInfo(name)
     entry.size, entry.mode = len(data), 0o644
     tar.addfile(entry, io.BytesIO(data))
+
+
+def add_link(tar, name, to):
+    """Adds a symbolic link to the archive."""
+    entry = tarfile.TarInfo(name)
+    entry.type, entry.linkname = tarfile.SYMTYPE, to
+    tar.addfile(entry)
 
 
 def write(file, listing):

@@ -39,7 +39,7 @@ class Entry:
 
     @property
     def link(self):
-        return f"{self.page.name}.md#{self.anchor}"
+        return f"{'laws-' * (self.kind == 'law')}{self.page.name}.md#{self.anchor}"
 
 
 def short(crate):
@@ -57,7 +57,7 @@ class Sources:
             folder = TOP / "crates" / crate
             for path in sorted((folder / "src").rglob("*.rt")):
                 file = path.relative_to(folder / "src").with_suffix("").as_posix()
-                items, uses, _ = rust.read(crate, path, file)
+                items, uses = rust.read(crate, path, file)
                 self.items[crate, file], self.uses[crate, file] = items, uses
             for path in sorted((folder / "specs").rglob("*.antt")):
                 file = path.relative_to(folder / "specs").with_suffix("").as_posix().replace("/", ".")
@@ -157,7 +157,8 @@ class Model:
     """The entries, and how names lead to them."""
 
     def __init__(self, sources):
-        self.sources, self.entries, self.words, self.types, self.calls, self.std, self.members, self.paths = sources, [], {}, {}, {}, {}, {}, {}
+        self.sources, self.entries = sources, []
+        self.words, self.types, self.calls, self.by_name, self.std, self.members, self.paths = {}, {}, {}, {}, {}, {}, {}
         self.add_calls()
         self.add_words()
         self.link()
@@ -166,6 +167,13 @@ class Model:
     def add(self, entry):
         self.entries.append(entry)
         return entry
+
+    def by_page(self):
+        """The entries of each page."""
+        found = {}
+        for entry in self.entries:
+            found.setdefault(entry.page.name, []).append(entry)
+        return found
 
     # ---- calls
 
@@ -251,7 +259,9 @@ class Model:
         where = ", ".join([*(f"`use {it}`" for it in paths[:1]), f"`{item.crate}`", f"`src/{item.file}.rt`"])
         anchor = f"{short(item.crate)}.{anchor or item.name}"
         code = shown_fields(code) if item.kind == "struct" else code
-        return self.add(Entry("call", name, page, anchor, code, docs, item, where))
+        entry = self.add(Entry("call", name, page, anchor, code, docs, item, where))
+        self.by_name.setdefault(name, []).append(entry)
+        return entry
 
     def trait_head(self, item):
         """A trait's head, with the members that only contracts name."""
@@ -303,8 +313,8 @@ class Model:
     def where_of(self, crate, file, name):
         """By which import callers name a word or a law, and where it stands."""
         path = f"Rattle.{crate}.specs.{file}"
-        if (crate, file) == (BITVEC, "Laws"):
-            return f"`using(bitvec::specs::Laws::{name})`"
+        if file == "Laws" and crate in (BITVEC, RECORDS):
+            return f"`using({crate}::specs::Laws::{name})`"
         if crate not in (BITVEC, RECORDS):
             path = self.named.get((path, None)) or self.named.get((path, name))
         return ", ".join([f"`ghost use {path}.{{{name}}}`"] * bool(path) + [f"`{crate}`", f"`specs/{file.replace('.', '/')}.antt`"])
@@ -322,9 +332,7 @@ class Model:
         if word.kind == "set":
             return []
         head = list(word.statement)
-        for mark in ("pub ", "abbrev pub ", "unfoldable pub ", "abbrev ", "unfoldable "):
-            if head[0].startswith(mark):
-                head[0] = head[0][len(mark):]
+        head[0] = re.sub(r"^((?:abbrev |unfoldable )?)pub ", r"\1", head[0])
         head[0] = re.sub(r"^((?:record|data) )", r"\1", head[0])
         if word.arguments and word.kind == "law":
             name, _, rest = head[0].partition(" : ")
@@ -351,6 +359,13 @@ class Model:
         if is_rust:
             return self.types.get((scope.crate, name))
         return self.words.get((scope.crate, scope.file, name))
+
+    def told(self, entry, path):
+        """The call that an entry's `///` means by a path: one of its own trait or type, of its crate, that its file imports, or any."""
+        own, last = entry.name.rpartition("::")[0], path[-1] if path else ""
+        names = ["::".join(path[-2:]) if path[1:] else f"{own}::{last}", last]
+        near = [it for name in names for it in self.by_name.get(name, ()) if it.scope.crate == entry.scope.crate]
+        return next(filter(None, [*near, self.target(entry.scope, last), *map(self.calls.get, names)]), None)
 
     def ghost_target(self, scope, name):
         """The trait that has the member which `Self.name`, `T.name` or `O.name` means in a contract, by the bounds at hand."""

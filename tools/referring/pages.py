@@ -5,17 +5,17 @@ import re
 import library
 from referring import callers, rust
 from referring.model import GHOST, NAME
-from referring.notions import NAMES, NOTIONS, SETS, STD, WRONG
+from referring.notions import NOTIONS, SETS, STD, WRONG
 
 MADE = "<!-- made by tools/reference from the sources: change these, and run it again -->\n"
 SECTIONS = {"call": "Calls", "word": "Words", "law": "Laws", "set": "Sets"}
 # Of the page of wrong bodies: what each kind is.
 WRONG_SECTIONS = {
     "edit": ("Edits of the gate", "The prover has to refuse each, in every run of the gate."),
-    "hand": ("Edits tried by hand", "The prover has to refuse each; `compile_fail/edits.sh` tries them."),
+    "hand": ("Edits tried by hand", "The prover has to refuse each; `compile_fail/edits.py` tries them."),
     "mutant": ("Mutants", "Every clause admits these, or a test shows them more cheaply; `compile_fail/mutants.sh` tries that the test fails."),
 }
-LINK = re.compile(r"\[`([^`\]]+)`\](?!\()")
+LINK = re.compile(r"\[`([^`\]]+)`\](?!\()|\[(`?[^`\]]+`?)\]\((crate::[\w:]+)\)")
 TOKEN = re.compile(f"{NAME.pattern}|{GHOST.pattern}")
 # How many names a list has before it is folded, and how many callers a call shows.
 FEW, CALLERS = 24, 3
@@ -60,26 +60,37 @@ def sentence(lines, names):
     return escaped(text) + ("" if not text or text[-1] in ".:!?" else ".")
 
 
-def documents(model, lines):
+def summary(entry):
+    """The first sentence of a comment, as plain words."""
+    lines = [line.strip() for line in entry.text]
+    text = " ".join(lines[:lines.index("")] if "" in lines else lines).partition("```")[0].strip()
+    found = re.match(r".*?\.(?= |$)", text)
+    return re.sub(r"\[(`[^`]*`)\]", r"\1", found[0] if found else text)
+
+
+def summaries(entries):
+    """A line for each entry, which leads to it."""
+    return "\n".join(f"- [`{it.name}`](#{it.anchor}) {escaped(summary(it))}" for it in entries) + "\n"
+
+
+def documents(model, entry):
     """A `///` as Markdown: its links lead into the reference, and its examples are code."""
-    text, is_code, found = [], False, []
-    for line in lines:
+    is_code, found = False, []
+    for line in entry.text:
         if line.strip().startswith("```"):
             line = "```" if is_code else "```rust"
             is_code = not is_code
         elif not is_code:
-            line = LINK.sub(lambda it: link_of(model, it[1]), line)
+            line = LINK.sub(lambda it: link_of(model, entry, it[1] or it[3], it[2]), line)
         found.append(line)
     return "\n".join(found)
 
 
-def link_of(model, name):
+def link_of(model, entry, name, words=None):
+    """A link to the call of this name, if it is shown: by its name, or by other words."""
     path = [it for it in name.split("::") if it not in ("crate", "self")]
-    for wanted in ("::".join(path[-2:]), path[-1] if path else ""):
-        entry = model.calls.get(wanted)
-        if entry:
-            return f"[`{'::'.join(path)}`]({entry.link})"
-    return f"`{'::'.join(path)}`"
+    target, shown = model.told(entry, path), words or f"`{'::'.join(path)}`"
+    return f"[{shown}]({target.link})" if target else shown
 
 
 def listed(entries):
@@ -95,7 +106,7 @@ def body(model, entry):
     if entry.code:
         parts.append(code(model, entry))
     if entry.kind == "call":
-        parts.append(documents(model, entry.text))
+        parts.append(documents(model, entry))
     elif entry.kind in WRONG_SECTIONS:
         parts.append(" ".join(entry.text))
     else:
@@ -160,60 +171,73 @@ def title_of(page):
     return (library.TOP / "docs" / page).read_text().partition("\n")[0].removeprefix("# ")
 
 
+def section(model, title, entries, is_summed=True):
+    """A part of a page: a line for each entry, and then each below its name."""
+    text = [f"## {title}\n", *[summaries(entries)] * is_summed] if entries else []
+    for entry in entries:
+        text.append(f'<a id="{entry.anchor}"></a>\n\n### `{entry.name}`\n')
+        text += [it + "\n" for it in body(model, entry)]
+    return text
+
+
+def in_order(notion, entries):
+    """The entries of a page in the order of use."""
+    return sorted(entries, key=lambda it: notion.rank(it.scope.file) if it.kind == "call" else 0)
+
+
 def page(model, notion, entries):
-    """A page: its calls, words and laws, each below its name."""
+    """The page of a notion: its calls and words. Its laws have a page of their own."""
     text = [head(notion)]
-    for kind, title in SECTIONS.items():
-        some = [it for it in entries if it.kind == kind]
-        if not some:
-            continue
-        if len({it.kind for it in entries}) > 1:
-            text.append(f"## {title}\n")
-        for entry in some:
-            text.append(f'<a id="{entry.anchor}"></a>\n\n### `{entry.name}`\n')
-            text += [it + "\n" for it in body(model, entry)]
+    if any(it.kind == "law" for it in entries):
+        text.append(f"Its laws stand on [a page of their own]({law_page(notion)}).\n")
+    for kind in ("call", "word", "set"):
+        text += section(model, SECTIONS[kind], in_order(notion, [it for it in entries if it.kind == kind]))
     return "\n".join(text)
+
+
+def laws_page(model, notion, laws):
+    """The laws of a notion, each below the first set that has it."""
+    by_set = {}
+    for law in laws:
+        sets = [it for it in model.users.get(law, ()) if it.kind == "set"]
+        by_set.setdefault(sets[0] if sets else None, []).append(law)
+    text = [f"# Laws: {notion.title}\n\n{MADE}\nThe laws that callers may cite about [these]({notion.name}.md), by the [sets](sets.md) that have them.\n"]
+    for of in sorted(by_set, key=lambda it: model.entries.index(it) if it else len(model.entries)):
+        text += section(model, f"Set [`{of.name}`]({of.link}) of `{of.scope.crate}`" if of else "In no set", by_set[of])
+    return "\n".join(text)
+
+
+def law_page(notion):
+    return f"laws-{notion.name}.md"
 
 
 def wrong_page(model, entries):
     """The page of wrong bodies, by who tries them."""
     text = [head(WRONG)]
     for kind, (title, about) in WRONG_SECTIONS.items():
-        some = [it for it in entries if it.kind == kind]
-        text += [f"## {title}\n", f"{about}\n"] if some else []
-        for entry in some:
-            text.append(f'<a id="{entry.anchor}"></a>\n\n### `{entry.name}`\n')
-            text += [it + "\n" for it in body(model, entry)]
+        found = section(model, title, [it for it in entries if it.kind == kind], is_summed=False)
+        text += [found[0], f"{about}\n", *found[1:]] if found else []
     return "\n".join(text)
 
 
-def names_page(model):
-    """Each name, with what it is and where."""
-    rows = {}
-    for entry in model.entries:
-        if entry.kind not in WRONG_SECTIONS:
-            last = entry.name.rpartition("::")[2]
-            rows.setdefault((last[0].lower() if last[0].isascii() else "other", last.lower(), last), []).append(entry)
-    text, letter = [head(NAMES)], None
-    for (first, _, last), entries in sorted(rows.items()):
-        if first != letter:
-            text.append(f"\n## {first}\n")
-            letter = first
-        links = [f"[{it.page.title}]({it.link})" + (f" (`{it.name}`)" if it.name != last else "") for it in entries]
-        text.append(f"- `{last}`: {', '.join(links)}")
-    return "\n".join(text) + "\n"
-
-
-def index(model, by_page):
+def first_page(by_page):
     """The first page: the pages, with how much each has."""
     text = [f"# Reference\n\n{MADE}\nEach call of `bitvec` and `bitrecord` with its contract, the words of contracts, and the laws that callers may cite. "
-            "A name in a head or a statement is a link to where it is defined. [Names](names.md) has all of them by the alphabet.\n"]
+            "A name in a head or a statement is a link to where it is defined.\n\n"
+            "A word marked `abbrev` opens by itself. One marked `unfoldable` opens in any proof that names it in a line `unfolding`, or in "
+            "`#[tactic(auto, unfolding(..))]`. A word without a mark opens nowhere else; laws tell what it says. In a terminal `rt lemma WORD..` prints a "
+            "law or a word with its import.\n"]
     for notion in [*NOTIONS, SETS, WRONG, STD]:
         kinds = [it.kind for it in by_page.get(notion.name, ())]
         titles = {**SECTIONS, **{kind: title for kind, (title, _) in WRONG_SECTIONS.items()}}
-        counts = ", ".join(counted(kinds.count(kind), title.lower()) for kind, title in titles.items() if kind in kinds)
+        counts = ", ".join(linked_count(notion, kind, kinds.count(kind), title) for kind, title in titles.items() if kind in kinds)
         text.append(f"- [{notion.title}]({notion.name}.md): {notion.about} ({counts})")
     return "\n".join(text) + "\n"
+
+
+def linked_count(notion, kind, number, title):
+    text = counted(number, title.lower())
+    return f"[{text}]({law_page(notion)})" if kind == "law" else text
 
 
 def counted(number, title):
@@ -228,11 +252,13 @@ def pages(model):
     for entry in model.entries:
         for target in entry.targets:
             model.users.setdefault(target, []).append(entry)
-    by_page = {}
-    for entry in model.entries:
-        by_page.setdefault(entry.page.name, []).append(entry)
-    found = {f"{notion.name}.md": page(model, notion, by_page.get(notion.name, ())) for notion in [*NOTIONS, SETS, STD]}
-    found["wrong-bodies.md"] = wrong_page(model, by_page.get(WRONG.name, ()))
-    found["names.md"] = names_page(model)
-    found["README.md"] = index(model, by_page)
+    by_page, found = model.by_page(), {}
+    for notion in [*NOTIONS, SETS, STD]:
+        entries = by_page.get(notion.name, ())
+        laws = [it for it in entries if it.kind == "law"]
+        found[f"{notion.name}.md"] = page(model, notion, entries)
+        if laws:
+            found[law_page(notion)] = laws_page(model, notion, laws)
+    found["wrong-bodies.md"] = wrong_page(model, by_page[WRONG.name])
+    found["README.md"] = first_page(by_page)
     return {file: re.sub(r"\n{3,}", "\n\n", text).rstrip() + "\n" for file, text in found.items()}

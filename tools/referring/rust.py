@@ -1,13 +1,14 @@
-"""The items of a .rt file: types, traits, functions and what stands in them, each with its comment and its head. It reads the layout of
-`rt fmt`, by lines and their indents."""
+"""The items of a .rt file as the reference shows them: types, traits, functions and what stands in them, each with its comment and its head. The
+parser is that of tools/erasing; heads have the lines of `rt fmt`."""
 import dataclasses
 import re
+import sys
 
-ITEM = re.compile(r"(pub(?:\([^)]*\))? )?((?:final |unsafe |const )*)(fn|struct|enum|trait|impl|const|type|macro_rules!|mod)\b ?(\S*)")
-NAME = re.compile(r"(?:r#)?(\w+)")
-GHOST_USE = re.compile(r"ghost use ([\w.]+)\.\{(.*)\};$")
-USE = re.compile(r"(pub )?use ([^;]*);")
-GHOST = re.compile(r"ghost ([\w-]+) ?[:=]")
+from library import TOP
+
+sys.path.insert(0, str(TOP / "tools/erasing"))
+from items import parsed
+from tokens import text, tree
 
 
 @dataclasses.dataclass
@@ -35,8 +36,7 @@ class Item:
     @property
     def of(self):
         """The type, and the trait, that an impl is of."""
-        head = " ".join(line.strip() for line in self.head).rstrip("{} ")
-        head = re.sub(r"^impl\s*", "", head)
+        head = re.sub(r"^(?:unsafe )?impl\s*", "", " ".join(line.strip() for line in self.head).rstrip("{} "))
         if head.startswith("<"):
             head = head[end_of(head, 0):].strip()
         trait, is_for, of = head.partition(" for ")
@@ -59,167 +59,75 @@ def bare(path):
     return found[2] if found else path.strip()
 
 
-def split_names(text):
-    """The names of a brace, each with what it is called here."""
-    for name in filter(None, (it.strip() for it in text.split(","))):
-        name, _, alias = name.partition(" as ")
-        yield name.strip(), (alias or name).strip()
-
-
 class Reader:
-    """Reads the lines of one file."""
+    """The items of one file, and the names that its `use` lines bring."""
 
-    def __init__(self, crate, file, text):
-        self.crate, self.file, self.lines, self.at = crate, file, text.splitlines(), 0
-        self.docs, self.uses = [], []
+    def __init__(self, crate, file, source):
+        self.crate, self.file, self.lines, self.uses = crate, file, source.splitlines(), []
+        self.items, _ = self.block(parsed(tree(source, file), file), {})
 
-    def read(self):
-        """The items of the file."""
-        for line in self.lines:
-            if not line.startswith("//!"):
-                break
-            self.docs.append(line[4:])
-        return self.block(0, {})
+    def block(self, found, imports):
+        """The items of a block, and its ghost members."""
+        imports, items, ghosts = dict(imports), [], []
+        for it in found:
+            if it.kind == "ghost" and it.name == "use":
+                path, _, names = text(it.head).strip().rstrip(";").partition(".{")
+                imports.update({alias: (path, name) for _, name, alias in paths_of(names.rstrip("}"))})
+            elif it.kind == "use":
+                self.use(it, imports)
+            elif it.kind == "ghost":
+                notes = re.findall(r"^ *// (.*)$", it.lead.rpartition("\n\n")[2], re.M)
+                ghosts.append((it.name, notes, [line.strip() for line in self.lines[it.line - 1:it.body.end]]))
+            elif it.kind not in ("call", "inner doc", "inner attribute"):
+                items.append(self.item(it, imports))
+        return items, ghosts
 
-    def block(self, indent, imports):
-        """The items of a block, down to the line that closes it."""
-        items, docs, notes, attributes, imports, ghosts = [], [], [], [], dict(imports), []
-        while self.at < len(self.lines):
-            line = self.lines[self.at]
-            if line.strip() and len(line) - len(line.lstrip()) < indent:
-                break
-            text = line.strip()
-            if text.startswith("// "):
-                notes.append(text[3:])
-                self.at += 1
-                continue
-            if text.startswith("///"):
-                docs.append(text[4:])
-                self.at += 1
-            elif text.startswith("#["):
-                attributes.append(self.attribute())
-            elif GHOST_USE.match(text):
-                path, names = GHOST_USE.match(text).groups()
-                imports.update({alias: (path, name) for name, alias in split_names(names)})
-                self.at += 1
-            elif re.match(r"(?:pub )?use ", text):
-                self.use(imports)
-                docs, attributes = [], []
-            elif ITEM.match(text):
-                items.append(self.item(indent, docs, attributes, imports))
-                docs, attributes = [], []
-            elif GHOST.match(text):
-                ghosts.append((GHOST.match(text)[1], notes, self.skip_ghost(indent)))
-                docs, attributes = [], []
-            else:
-                self.at += 1
-                if text:
-                    docs, attributes = [], []
-            notes = []
-        self.ghosts = ghosts
-        return items
+    def use(self, it, imports):
+        for path, name, alias in paths_of(" ".join(text(it.head).rstrip("; \n").split())):
+            imports.setdefault(alias, (path, name))
+            self.uses.append((it.is_public, path, name, alias))
 
-    def attribute(self):
-        lines = []
-        while True:
-            lines.append(self.lines[self.at].strip())
-            self.at += 1
-            if lines[-1].endswith("]"):
-                return " ".join(lines)
+    def item(self, it, imports):
+        inner, ghosts = self.block(it.items, imports) if it.kind in ("impl", "trait") and it.items else ([], [])
+        docs = [str(line)[4:] for line in it.docs]
+        attributes = ["#" + " ".join(str(group).split()) for group in it.attributes]
+        name = "" if it.kind == "impl" else re.match(r"\w*", it.name)[0]
+        return Item(it.kind, name, self.crate, self.file, it.is_public, docs, attributes, self.head(it), imports, inner, ghosts)
 
-    def use(self, imports):
-        lines = []
-        while True:
-            lines.append(self.lines[self.at].strip())
-            self.at += 1
-            if lines[-1].endswith(";"):
-                break
-        found = USE.match(" ".join(lines))
-        if found:
-            for path, name, alias in paths_of(found[2]):
-                imports.setdefault(alias, (path, name))
-                self.uses.append((bool(found[1]), path, name, alias))
-
-    def skip_ghost(self, indent):
-        """A ghost member, with the lines that go on."""
-        lines = [self.lines[self.at].strip()]
-        self.at += 1
-        while not lines[-1].endswith(";") and self.at < len(self.lines) and len(self.lines[self.at]) - len(self.lines[self.at].lstrip()) > indent:
-            lines.append(self.lines[self.at].strip())
-            self.at += 1
+    def head(self, it):
+        """The lines of an item up to its body; of a struct or an enum with its fields."""
+        begin, body = it.line - 1, it.body
+        indent = len(self.lines[begin]) - len(self.lines[begin].lstrip())
+        end = body.end if body and it.kind in ("struct", "enum") else body.line if body else begin + 1
+        while not body and not self.lines[end - 1].endswith(";"):
+            end += 1
+        lines = [line[indent:] for line in self.lines[begin:end]]
+        if body and lines[-1] == "{":
+            return lines[:-1]
+        if it.kind == "fn" and body:
+            lines[-1] = re.sub(r"\s*\{\}?$", "", lines[-1])
         return lines
-
-    def item(self, indent, docs, attributes, imports):
-        """An item: its head, and where it is a trait or an impl, what stands in it."""
-        found = ITEM.match(self.lines[self.at].strip())
-        kind, name = found[3], NAME.match(found[4])
-        item = Item(kind, name[1] if name else "", self.crate, self.file, bool(found[1]) and "(" not in (found[1] or ""), docs, attributes, [], imports)
-        close = " " * indent + "}"
-        while self.at < len(self.lines):
-            line = self.lines[self.at]
-            self.at += 1
-            if line == " " * indent + "{":
-                self.skip_to(close)
-                return item
-            item.head.append(line[indent:])
-            if line.endswith(";") and not self.goes_on(indent):
-                return item
-            if line.endswith("{}") or (line.endswith("}") and line[indent:].startswith(("pub struct", "struct")) and "{" in line):
-                return item
-            if line.endswith("{") and kind in ("impl", "trait"):
-                item.items = self.block(indent + 4, imports)
-                item.ghosts = self.ghosts
-                self.skip_to(close)
-                return item
-            if line.endswith("{") and kind in ("struct", "enum"):
-                return self.fields(item, indent, close)
-            if line.endswith("{") and kind != "fn" or line.endswith("{") and not line.strip().startswith(("requires", "ensures")) and self.depth(item.head) == 1:
-                item.head[-1] = line[indent:].rstrip(" {")
-                self.skip_to(close)
-                return item
-        return item
-
-    @staticmethod
-    def depth(head):
-        return sum(line.count("{") - line.count("}") for line in head)
-
-    def goes_on(self, indent):
-        """Whether the head's semicolon stands within brackets, as that of an array's type."""
-        return False
-
-    def fields(self, item, indent, close):
-        while self.lines[self.at] != close:
-            item.head.append(self.lines[self.at][indent:])
-            self.at += 1
-        item.head.append("}")
-        self.at += 1
-        return item
-
-    def skip_to(self, close):
-        while self.at < len(self.lines) and self.lines[self.at] != close:
-            self.at += 1
-        self.at += 1
 
 
 def paths_of(text, before=""):
     """The names that a `use` brings: the path, the name, and what it is called here."""
     text = text.strip()
     at = text.find("{")
-    if at < 0:
+    if at < 0 and "," not in text:
         name, _, alias = text.partition(" as ")
         path, _, last = (before + name.strip()).rpartition("::")
         yield path, last, (alias.strip() or last)
         return
-    inner, depth, begin = text[at + 1:text.rfind("}")], 0, 0
+    inner, depth, begin = text[at + 1:text.rfind("}")] if at >= 0 else text, 0, 0
     for place, sign in enumerate(inner + ","):
         depth += {"{": 1, "}": -1}.get(sign, 0)
         if sign == "," and depth == 0:
             if inner[begin:place].strip():
-                yield from paths_of(inner[begin:place], before + text[:at])
+                yield from paths_of(inner[begin:place], before + text[:max(at, 0)])
             begin = place + 1
 
 
 def read(crate, path, file):
-    """The items of a file, its uses, and its own comment."""
+    """The items of a file, and the names that its `use` lines bring."""
     reader = Reader(crate, file, path.read_text())
-    return reader.read(), reader.uses, reader.docs
+    return reader.items, reader.uses
