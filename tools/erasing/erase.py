@@ -1,9 +1,11 @@
 """Erases: writes the items of a source as Rust, without contracts, ghosts and tactics. It knows each form that it takes out or
 writes anew, and stops with the file and the line at another."""
+import pathlib
 import re
 
 import closures
 import contracts
+import examples
 import laws
 import narrowing
 import renaming
@@ -256,18 +258,32 @@ class Eraser:
         return item.lead + "".join(part + indent for part in parts) + self.public(item)
 
     def documents(self, item):
-        """The lines of an item's documents. Examples are parts of tests, which run as these."""
-        made, is_code = [], False
+        """The lines of an item's documents, whose examples are whole programs."""
+        made, example = [], None
         for token in item.docs:
             line = token.text
             if line.strip() == "/// ```":
-                line, is_code = line + ("" if is_code else "ignore"), not is_code
-            elif is_code:
-                line = line.replace("assert!(rt; ", "assert!(").replace("rt.alloc()", "Global").replace(".clone()?", ".clone()")
-                line = renaming.in_documents(line)
-            line = renaming.in_links(line)
-            made.append(self.linked(line))
+                made += [line] if example is None else [*self.example(item, example), line]
+                example = [] if example is None else None
+            elif example is None:
+                made.append(self.linked(renaming.in_links(line)))
+            else:
+                example.append(self.in_example(line))
         return made
+
+    @staticmethod
+    def in_example(line):
+        """A line of an example, as Rust has it."""
+        line = line.replace("assert!(rt; ", "assert!(").replace("rt.alloc()", "Global").replace(".clone()?", ".clone()")
+        return renaming.in_documents(line).strip().removeprefix("///").removeprefix(" ")
+
+    def example(self, item, lines):
+        """The lines of an example, with those that set up its names."""
+        crate = pathlib.PurePath(self.file).parts[1]
+        whole = examples.whole(f"{crate}::{item.name}", lines)
+        if whole is None:
+            self.refuse(item.line, f"bindings/rust/set_ups.txt sets up nothing for the example of `{crate}::{item.name}`")
+        return [f"/// {line}".rstrip() for line in whole]
 
     def linked(self, line):
         """A line of documents, whose links are to this package's modules."""
