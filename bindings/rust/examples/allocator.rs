@@ -88,10 +88,15 @@ fn main() {
         })
     );
     let one = b.alloc().unwrap();
-    println!(
-        "{} free, largest {}, one {one}, {} bytes",
-        b.free_blocks(),
-        b.largest(),
-        b.bytes().count()
-    );
+    assert_eq!((one, b.free_blocks(), b.largest()), (0, 533, 58));
+    let mut all = Blocks::new();
+    all.alloc_run(1024).unwrap();
+    b.merge(&all);
+    assert_eq!((b.free_blocks(), b.alloc()), (0, None));
+    println!("{} bytes, {} of them full", b.bytes().count(), b.bytes().filter(|byte| *byte == 0xFF).count());
+}
+
+#[test]
+fn blocks_are_given_and_taken_back() {
+    main();
 }

@@ -31,16 +31,16 @@ impl BitMatrix {
         self.bits.set(r * self.n + c, bit);
     }
 
-    pub fn row(&self, r: usize) -> BitSlice<u64, Lsb0> {
+    pub fn row(&self, r: usize) -> BitSlice<'_, u64, Lsb0> {
         self.bits.part(r * self.n..(r + 1) * self.n)
     }
 
-    pub fn row_mut(&mut self, r: usize) -> BitSliceMut<u64, Lsb0> {
+    pub fn row_mut(&mut self, r: usize) -> BitSliceMut<'_, u64, Lsb0> {
         let n = self.n;
         self.bits.part_mut(r * n..(r + 1) * n)
     }
 
-    pub fn rows(&self) -> impl DoubleEndedIterator<Item = BitSlice<u64, Lsb0>> + ExactSizeIterator {
+    pub fn rows(&self) -> impl DoubleEndedIterator<Item = BitSlice<'_, u64, Lsb0>> + ExactSizeIterator {
         self.bits.chunks_exact(self.n)
     }
 
@@ -129,7 +129,15 @@ fn main() {
         m.edges(),
         m.rows().map(|r| r.count_ones()).max().unwrap()
     );
-    if n < 20 {
-        println!("{m}");
+    let mut chain = BitMatrix::identity(4);
+    for i in 0..3 {
+        chain.set(i, i + 1, true);
     }
+    chain.close();
+    assert_eq!(chain.to_string(), "1111\n.111\n..11\n...1\n");
+}
+
+#[test]
+fn two_closures_agree() {
+    main();
 }

@@ -102,3 +102,8 @@ fn main() {
     assert_eq!(list.next_geq(values[777]), Some(values[777]));
     println!("{} values in {} bytes, {} low bits", values.len(), list.bytes(), list.low_bits);
 }
+
+#[test]
+fn values_are_found() {
+    main();
+}
