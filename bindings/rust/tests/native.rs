@@ -139,6 +139,18 @@ fn operators_and_comparisons_are_of_any_kinds() {
 }
 
 #[test]
+fn texts_have_the_prefix_of_their_base() {
+    let bytes = [0x3Cu8, 0x0A, 0xFF];
+    let view = bytes.view_bits::<Msb0>();
+    assert_eq!(format!("{:#x}", view), "[\n    0x3c,\n    0x0a,\n    0xff,\n]");
+    assert_eq!(format!("{:#X}", view.part(4..16)), "[\n    0xC,\n    0x0A,\n]");
+    assert_eq!(format!("{:#b}", view.part(10..17)), "[\n    0b001010,\n    0b1,\n]");
+    assert_eq!(format!("{:#o}", view.part(5..7).to_bitvec()), "[\n    0o2,\n]");
+    assert_eq!(format!("{:#b}", [0x1234u16].view_bits::<Lsb0>().part(2..6)), "[\n    0b1011,\n]");
+    assert_eq!(format!("{:#x}", bits![u8, Lsb0;]), "[]");
+}
+
+#[test]
 fn bytes_are_written_at_the_end_and_read_from_the_front() {
     let mut bits = bitvec![u16, Lsb0; 1, 0, 1];
     bits.write_all(&[0x12, 0x34]).expect("memory");
