@@ -3,13 +3,13 @@ import dataclasses
 import re
 
 USE = re.compile(r"(pub )?use ([\w.]+?)(?:\.\{(.*)\})?(?: as (\w+))?$")
-HEAD = re.compile(r"((?:pub |abbrev |unfoldable |record |data |ruleset )*)([^\s(){}:=.]+)")
-MODULE = re.compile(r"module _ (.*) where$")
+HEAD = re.compile(r"(?!infix|open |unfolding |field |mod |pub mod )((?:pub |abbrev |unfoldable |record |data |ruleset )*)([^\s(){}:]+)")
+MODULE = re.compile(r"module (?:_ (.*) where$)?")
 
 
-@dataclasses.dataclass
+@dataclasses.dataclass(eq=False)
 class Word:
-    """A definition: its kind is word, law or set; arguments are those of the modules around it, body has its equations, line counts from 0."""
+    """A definition: its kind is word, law or set; arguments are those of the modules around it, body has its equations, laws those of a set."""
 
     kind: str
     name: str
@@ -21,8 +21,7 @@ class Word:
     statement: list
     body: list
     imports: dict
-    line: int
-    laws: list = dataclasses.field(default_factory=list)
+    laws: list
 
 
 class Reader:
@@ -30,101 +29,65 @@ class Reader:
 
     def __init__(self, crate, file, text):
         self.crate, self.file, self.lines = crate, file, text.splitlines()
-        self.imports, self.passed, self.words, self.about = {}, [], [], []
+        self.imports, self.passed, self.words = {}, [], {}
 
     def read(self):
         comment, arguments, at = [], [], 0
         while at < len(self.lines) and self.lines[at].startswith("--"):
-            self.about.append(self.lines[at][3:])
             at += 1
         while at < len(self.lines):
-            line = self.lines[at]
-            text, indent = line.strip(), len(line) - len(line.lstrip())
-            if not text:
-                comment, at = [], at + 1
-            elif text.startswith("--"):
+            text, indent = self.lines[at].strip(), self.indent(at)
+            arguments = [(depth, it) for depth, it in arguments if depth < indent or not text]
+            if text.startswith("--"):
                 comment, at = comment + [text[3:]] if not text.startswith("-- ----") else [], at + 1
-            elif USE.match(text):
-                self.use(USE.match(text))
-                comment, at = [], at + 1
-            elif MODULE.match(text):
-                arguments = [(depth, it) for depth, it in arguments if depth < indent] + [(indent, MODULE.match(text)[1])]
-                comment, at = [], at + 1
-            else:
-                arguments = [(depth, it) for depth, it in arguments if depth < indent]
-                at = self.define(at, indent, comment, [it for _, it in arguments])
-                comment = []
+                continue
+            use, module = USE.match(text), MODULE.match(text)
+            end = at + 1
+            if use:
+                self.use(*use.groups())
+            elif module:
+                arguments += [(indent, module[1])] * bool(module[1])
+            elif text:
+                end = self.define(at, indent, comment, [it for _, it in arguments])
+            comment, at = [], end
         return self
 
-    def use(self, found):
-        is_passed, path, names, alias = found.groups()
-        if names is None:
-            self.passed += [(path, None, alias)] * bool(is_passed)
-            return
-        for it in names.split(","):
+    def indent(self, at):
+        """How far in a line stands; a blank one nowhere."""
+        line = self.lines[at] if at < len(self.lines) else ""
+        return len(line) - len(line.lstrip()) if line.strip() else -1
+
+    def use(self, is_passed, path, names, alias):
+        for it in names.split(",") if names else ():
             name, _, called = it.strip().partition(" as ")
             self.imports[called or name] = path, name
-            if is_passed:
-                self.passed.append((path, name, called or name))
+            self.passed += [(path, name, called or name)] * bool(is_passed)
+        self.passed += [(path, None, alias)] * bool(is_passed and names is None)
 
     def define(self, at, indent, comment, arguments):
-        """A definition, from its head to the last of its equations."""
-        def belongs(line):
-            text = line.strip()
-            return text and not text.startswith("--") and (len(line) - len(line.lstrip()) > indent)
-
-        first = self.lines[at].strip()
-        found = HEAD.match(first)
-        end = at + 1
-        while end < len(self.lines) and belongs(self.lines[end]):
-            end += 1
-        if not found or first.startswith(("infix", "open", "unfolding", "field", "module", "mod ", "pub mod")):
+        """A definition, from its head to the last of its equations, and where it ends. Equations without a head belong to what was defined."""
+        found = HEAD.match(self.lines[at].strip())
+        marks, name = found.groups() if found else ("", None)
+        is_whole = "record" in marks or "data" in marks
+        end = past = self.end(at + 1, indent, over_blanks=is_whole)
+        if not found or (name in self.words and not marks):
             return end
-        words, name = found[1].split(), found[2]
-        if any(word.name == name for word in self.words) and " = " in first and not words:
-            return end
-        statement = [line[indent:] for line in self.lines[at:end]]
-        if "record" in words or "data" in words:
-            kind, end = "word", self.to_end(end, indent)
-            statement = [line[indent:] for line in self.lines[at:end]]
-            while statement and (not statement[-1].strip() or statement[-1].strip().startswith("--") and len(statement[-1]) == len(statement[-1].lstrip())):
-                statement.pop()
-                end -= 1
-        elif "ruleset" in words:
-            kind = "set"
-        else:
-            is_law = not {"abbrev", "unfoldable"} & {*words} and ("-" in name or self.file.endswith("Laws"))
-            kind = "law" if is_law else "word"
-        body, past = self.equations(end, indent, name) if kind in ("word", "law") and "record" not in words and "data" not in words else ([], end)
-        word = Word(kind, name, self.crate, self.file, "pub" in words, comment, arguments, statement, body, self.imports, at)
-        if kind == "set":
-            word.laws = re.findall(r"[^\s(),=]+", " ".join(statement).partition("=")[2])
-        self.words.append(word)
+        is_law = not ({"abbrev", "unfoldable"} & {*marks.split()} or is_whole) and ("-" in name or self.file.endswith("Laws"))
+        kind = "set" if "ruleset" in marks else "law" if is_law else "word"
+        while kind != "set" and not is_whole and self.indent(past) == indent and self.lines[past].split()[0] in ("unfolding", name):
+            past = self.end(past + 1, indent)
+        statement, body = ([line[indent:] for line in self.lines[begin:to]] for begin, to in ((at, end), (end, past)))
+        laws = re.findall(r"[^\s(),=]+", " ".join(statement).partition("=")[2]) if kind == "set" else []
+        self.words[name] = Word(kind, name, self.crate, self.file, "pub" in marks, comment, arguments, statement, body, self.imports, laws)
         return past
 
-    def to_end(self, end, indent):
-        """The end of a record: blank lines and comments may stand among its fields."""
-        last = end
-        while end < len(self.lines):
-            line = self.lines[end]
-            if line.strip() and len(line) - len(line.lstrip()) <= indent:
-                break
-            end += 1
-            if line.strip():
-                last = end
-        return last
-
-    def equations(self, at, indent, name):
-        """The equations of a name that was declared, and where they end."""
-        begin = at
-        while at < len(self.lines):
-            line = self.lines[at]
-            text, depth = line.strip(), len(line) - len(line.lstrip())
-            is_own = depth == indent and (text.startswith("unfolding ") or text.split(" ")[0] == name)
-            if not text or not (is_own or depth > indent):
-                break
+    def end(self, at, indent, over_blanks=False):
+        """Where ends what stands deeper; in a record blank lines may stand between."""
+        end = at
+        while at < len(self.lines) and (self.indent(at) > indent or over_blanks and self.indent(at) < 0):
             at += 1
-        return [line[indent:] for line in self.lines[begin:at]], at
+            end = at if self.indent(at - 1) > indent else end
+        return end
 
 
 def read(crate, path, file):

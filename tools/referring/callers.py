@@ -3,10 +3,10 @@ other library of the repository."""
 import re
 
 from library import BITVEC, RECORDS, TOP
+from referring import rust
+from referring.sources import files
 
-FN = re.compile(r"\s*(?:pub )?fn (\w+)")
 CALLED = re.compile(r"\bin_place::(\w+)|(?<![.\w])([A-Z]\w+)(?:::<[^()]*?>)?::([a-z]\w*)|(?<!\bbit)(?<!\bnumber)\.([a-z]\w*)(?:::<[^()]*?>)?\(")
-IMPL = re.compile(r"impl(?:<.*?>)? (?:\w+ for )?(\w+)")
 # Methods that iterators, slices and options of std have, too.
 SHARED = {"count", "iter_mut", "or", "resize", "some"}
 # Of a name that several types have, a caller's method is the one of such a trait: a bit and a number have names of their own there.
@@ -15,50 +15,39 @@ OTHERS = re.compile(r"\b(bitvec_\w+)(?:::|\.specs)")
 
 
 def callers(lines):
-    """Each caller with a clause, in the order of the crates and files: its name, its crate and file, and the names that it calls."""
-    for crate, (_, libraries) in lines.items():
-        if not {BITVEC, RECORDS} & {*libraries} or crate == RECORDS or crate.endswith("_tests"):
-            continue
-        for path in sorted((TOP / "crates" / crate / "src").rglob("*.rt")):
-            text = path.read_text()
-            is_caller = any(f"{it}::" in text for it in (BITVEC, RECORDS))
-            if is_caller and {*OTHERS.findall(text)} <= {crate, "bitvec_test_support"}:
-                for name, called in functions(text):
-                    yield name, f"`{name}` (`{crate}`, `{path.relative_to(TOP / 'crates' / crate)}`)", called
+    """The functions of crates that stand on `bitvec` or records, and aren't tests: the crate, the path, and the name and the item of each."""
+    for crate in (it for it in lines if it != RECORDS and not it.endswith("_tests") and {BITVEC, RECORDS} & {*lines[it][1]}):
+        for path, file in files(crate, "src", "rt"):
+            for item in rust.read(crate, path, file)[0]:
+                of = f"{item.of[0]}::" if item.kind == "impl" else f"{item.name}::" if item.kind == "trait" else ""
+                yield from ((crate, path, f"{of}{it.name}", it) for it in (item.items if of else [item]) if it.kind == "fn")
 
 
-def functions(text):
-    """The functions of a source that have an `ensures`: the name, and the names that their bodies call."""
-    of, name, has_clause, called = "", "", False, set()
-    for line in [*text.splitlines(), "fn end"]:
-        found = FN.match(line)
-        if found:
-            if has_clause:
-                yield name, called
-            name, has_clause, called = f"{of}{found[1]}" if line.startswith(" ") else found[1], False, set()
-        elif line.startswith("impl"):
-            of = f"{IMPL.match(line)[1]}::" if IMPL.match(line) else ""
-        elif line.strip().startswith("ensures"):
-            has_clause = True
-        elif not line.strip().startswith(("//", "requires", "(", "≡")):
-            for place, type_name, function, method in CALLED.findall(line):
-                called.add(("in_place", place) if place else (type_name, function or method))
+def is_plain(crate, path):
+    """Whether a file names `bitvec` or records, and no other library of the repository."""
+    text = path.read_text()
+    return any(f"{it}::" in text for it in (BITVEC, RECORDS)) and {*OTHERS.findall(text)} <= {crate, "bitvec_test_support"}
 
 
-def by_entry(entries, lines):
-    """The callers of each call. A method whose name two types have, of which none is such a trait, goes with none."""
-    named = {}
-    for entry in entries:
-        if entry.kind == "call":
-            of, _, name = entry.name.rpartition("::")
-            keys = [("in_place", name)] if entry.scope.crate == "bitvec_in_place" and not of else [(of, name), ("", name)] if of else []
-            for key in keys:
-                named.setdefault(key, []).append(entry)
-    found = {}
-    for _, shown, called in callers(lines):
-        for key in called:
-            some = named.get(key, ()) if key[1] not in SHARED else ()
-            some = [it for it in some if it.name.partition("::")[0] in TRAITS] or some
-            if len(some) == 1 and shown not in found.setdefault(some[0], []):
-                found[some[0]].append(shown)
+def by_entry(model):
+    """The callers of each call that have a clause."""
+    methods, found = {}, {}
+    for entry in (it for name in model.by_name if "::" in name for it in model.by_name[name]):
+        methods.setdefault(entry.name.rpartition("::")[2], []).append(entry)
+    for crate, path, name, item in callers(model.sources.lines):
+        is_proved = any(line.strip().startswith("ensures") for line in item.head) and is_plain(crate, path)
+        for place, of, function, method in {*CALLED.findall(re.sub(r"//.*", "", item.body))} if is_proved else ():
+            entries = model.by_name.get(place or f"{of}::{function}", methods.get(method, ()))
+            entry = only(entries, place) if (place or function or method) not in SHARED else None
+            shown = f"`{name}` (`{crate}`, `{path.relative_to(TOP / 'crates' / crate)}`)"
+            if entry and shown not in found.setdefault(entry, []):
+                found[entry].append(shown)
     return found
+
+
+def only(entries, is_in_place):
+    """The call that is meant, or None where it may be several, of which not one is of such a trait."""
+    if is_in_place:
+        entries = [it for it in entries if it.scope.crate == "bitvec_in_place"]
+    entries = [it for it in entries if it.name.partition("::")[0] in TRAITS] or entries
+    return entries[0] if len(entries) == 1 else None

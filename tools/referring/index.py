@@ -1,7 +1,8 @@
 """The index: each public call, word, law and set as one line with its head and its file, by pages in the order of use."""
 import re
 
-from library import BITVEC, RECORDS, TOP
+from library import TOP
+from referring.callers import callers
 from referring.notions import NOTIONS, SETS
 from referring.pages import SECTIONS, in_order
 
@@ -15,7 +16,7 @@ definition of each word, who names it, and search. In a crate's folder `rt lemma
 def head(entry):
     """The head of an entry as one line, without contract and body."""
     if entry.kind == "set":
-        return f"{entry.name} = {len(entry.laws)} laws"
+        return f"{entry.name} = {len(entry.scope.laws)} laws"
     if entry.kind != "call":
         return one_line(re.sub(r"\bpub ", "", line) for line in entry.scope.statement)
     lines = []
@@ -40,11 +41,9 @@ def file_of(entry):
 def examples(lines):
     """The proved callers that pages name, each with its file."""
     named = {name for page in TOP.glob("docs/*.md") for name in re.findall(r"`(\w+)`", page.read_text())}
-    for crate in (it for it in lines if it != RECORDS and not it.endswith("_tests") and {BITVEC, RECORDS} & {*lines[it][1]}):
-        for path in sorted((TOP / "crates" / crate / "src").rglob("*.rt")):
-            for name in re.findall(r"^ *(?:pub(?:\(crate\))? )?fn (\w+)", path.read_text(), re.M):
-                if name in named:
-                    yield f"example {name}  {path.relative_to(TOP)}"
+    for _, path, _, item in callers(lines):
+        if item.name in named:
+            yield f"example {item.name}  {path.relative_to(TOP)}"
 
 
 def index(model):
