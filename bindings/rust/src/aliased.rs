@@ -5,6 +5,7 @@ use crate::cells::{Cells, CellsRead, Shared};
 use crate::engine::{self, BitOp};
 use crate::index::Window;
 use crate::prelude::*;
+pub use crate::references::BitCell;
 
 use core::cell::Cell;
 use core::marker::PhantomData;
@@ -423,77 +424,5 @@ impl<T: BitStore, O: BitOrder> fmt::Debug for BitCells<'_, T, O> {
 impl<T: BitStore, O: BitOrder> fmt::Display for BitCells<'_, T, O> {
     fn fmt(&self, f: &mut fmt::Formatter<'_>) -> fmt::Result {
         fmt::Debug::fmt(self, f)
-    }
-}
-
-/// One bit among such pieces, for writing: what is written by `*bit = ..` comes into the memory when it is dropped.
-pub struct BitCell<'a, T: BitStore, O: BitOrder> {
-    piece: BitCells<'a, T, O>,
-    bit: bool,
-}
-
-impl<'a, T: BitStore, O: BitOrder> BitCell<'a, T, O> {
-    /// The bit of a piece at an index, which is there.
-    #[inline]
-    pub(crate) fn new(piece: &BitCells<'a, T, O>, index: usize) -> Self {
-        let piece = piece.cut(index..index + 1);
-        let bit = piece[0];
-        BitCell { piece, bit }
-    }
-
-    /// Sets or clears the bit at once.
-    #[inline]
-    pub fn set(&mut self, bit: bool) {
-        self.bit = bit;
-        self.piece.write(0, bit);
-    }
-
-    /// Sets or clears the bit at once, and gives the old one.
-    #[inline]
-    pub fn replace(&mut self, bit: bool) -> bool {
-        let old = self.bit;
-        self.set(bit);
-        old
-    }
-
-    /// Sets or clears the bit, and ends the reference.
-    #[inline]
-    pub fn commit(mut self, bit: bool) {
-        self.bit = bit;
-    }
-}
-
-impl<T: BitStore, O: BitOrder> core::ops::Deref for BitCell<'_, T, O> {
-    type Target = bool;
-
-    #[inline]
-    fn deref(&self) -> &bool {
-        &self.bit
-    }
-}
-
-impl<T: BitStore, O: BitOrder> core::ops::DerefMut for BitCell<'_, T, O> {
-    #[inline]
-    fn deref_mut(&mut self) -> &mut bool {
-        &mut self.bit
-    }
-}
-
-impl<T: BitStore, O: BitOrder> Drop for BitCell<'_, T, O> {
-    #[inline]
-    fn drop(&mut self) {
-        self.piece.write(0, self.bit);
-    }
-}
-
-impl<T: BitStore, O: BitOrder> fmt::Debug for BitCell<'_, T, O> {
-    fn fmt(&self, f: &mut fmt::Formatter<'_>) -> fmt::Result {
-        self.bit.fmt(f)
-    }
-}
-
-impl<T: BitStore, O: BitOrder> PartialEq<bool> for BitCell<'_, T, O> {
-    fn eq(&self, other: &bool) -> bool {
-        self.bit == *other
     }
 }

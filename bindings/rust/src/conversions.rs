@@ -3,43 +3,34 @@
 use crate::prelude::*;
 use core::fmt;
 
+/// What is made of a value by an expression.
+macro_rules! from {
+    ($($(#[$doc:meta])* [$($generic:tt)*] $from:ty => $made:ty, |$it:ident| $expression:expr;)*) => {$(
+        $(#[$doc])*
+        impl<$($generic)*> From<$from> for $made {
+            #[inline]
+            #[track_caller]
+            fn from($it: $from) -> Self {
+                $expression
+            }
+        }
+    )*};
+}
+
+from! {
+    [T: BitStore, O: BitOrder, const N: usize] [T; N] => BitArray<T, O, N>, |elements| BitArray::new(elements);
+    ['a, T: BitStore, O: BitOrder, const N: usize] &'a [T; N] => BitSlice<'a, T, O>, |elements| BitSlice::from_slice(elements);
+    ['a, T: BitStore, O: BitOrder, const N: usize] &'a mut [T; N] => BitSliceMut<'a, T, O>, |elements| BitSliceMut::from_slice_mut(elements);
+    ['a, T: BitStore, O: BitOrder, const N: usize] &'a BitArray<T, O, N> => BitSlice<'a, T, O>, |bits| bits.as_bitslice();
+    ['a, T: BitStore, O: BitOrder] BitSliceMut<'a, T, O> => BitSlice<'a, T, O>, |bits| {
+        let window = bits.window();
+        BitSlice::from_parts(bits.into_elements(), window.start, window.len)
+    };
+}
+
 impl<T: BitStore, O: BitOrder, const N: usize> Default for BitArray<T, O, N> {
     fn default() -> Self {
         BitArray::ZERO
-    }
-}
-
-impl<T: BitStore, O: BitOrder, const N: usize> From<[T; N]> for BitArray<T, O, N> {
-    fn from(elements: [T; N]) -> Self {
-        BitArray::new(elements)
-    }
-}
-
-impl<'a, T: BitStore, O: BitOrder, const N: usize> From<&'a [T; N]> for BitSlice<'a, T, O> {
-    #[track_caller]
-    fn from(elements: &'a [T; N]) -> Self {
-        BitSlice::from_slice(elements)
-    }
-}
-
-impl<'a, T: BitStore, O: BitOrder, const N: usize> From<&'a mut [T; N]> for BitSliceMut<'a, T, O> {
-    #[track_caller]
-    fn from(elements: &'a mut [T; N]) -> Self {
-        BitSliceMut::from_slice_mut(elements)
-    }
-}
-
-impl<'a, T: BitStore, O: BitOrder> From<BitSliceMut<'a, T, O>> for BitSlice<'a, T, O> {
-    #[inline]
-    fn from(bits: BitSliceMut<'a, T, O>) -> Self {
-        let window = bits.window();
-        BitSlice::from_parts(bits.into_elements(), window.start, window.len)
-    }
-}
-
-impl<'a, T: BitStore, O: BitOrder, const N: usize> From<&'a BitArray<T, O, N>> for BitSlice<'a, T, O> {
-    fn from(bits: &'a BitArray<T, O, N>) -> Self {
-        bits.as_bitslice()
     }
 }
 
@@ -83,65 +74,22 @@ mod owned {
     use alloc::boxed::Box;
     use alloc::vec::Vec;
 
+    from! {
+        /// It takes the memory, and panics where the bits are more than `MAX_BITS`.
+        [T: BitStore, O: BitOrder] Vec<T> => BitVec<T, O>, |elements| BitVec::from_vec(elements);
+        /// It takes the memory, and panics where the bits are more than `MAX_BITS`.
+        [T: BitStore, O: BitOrder] Box<[T]> => BitVec<T, O>, |elements| BitVec::from_vec(elements.into_vec());
+        [T: BitStore, O: BitOrder, const N: usize] [T; N] => BitVec<T, O>, |elements| BitVec::from_slice(&elements);
+        [T: BitStore, O: BitOrder, const N: usize] BitArray<T, O, N> => BitVec<T, O>, |bits| BitVec::from_slice(bits.as_raw_slice());
+        [T: BitStore, O: SliceOrder] BitSlice<'_, T, O> => BitVec<T, O>, |bits| bits.to_bitvec();
+        [T: BitStore, O: SliceOrder] BitSliceMut<'_, T, O> => BitVec<T, O>, |bits| bits.to_bitvec();
+        [T: BitStore, O: BitOrder, A: Allocator] BitVec<T, O, A> => Vec<T>, |bits| bits.into_elements().into_std();
+        ['a, T: BitStore, O: BitOrder, A: Allocator] &'a BitVec<T, O, A> => BitSlice<'a, T, O>, |bits| bits.as_bitslice();
+    }
+
     impl<T: BitStore, O: BitOrder> Default for BitVec<T, O> {
         fn default() -> Self {
             BitVec::new()
-        }
-    }
-
-    /// It takes the memory, and panics where the bits are more than `MAX_BITS`.
-    impl<T: BitStore, O: BitOrder> From<Vec<T>> for BitVec<T, O> {
-        #[track_caller]
-        fn from(elements: Vec<T>) -> Self {
-            BitVec::from_vec(elements)
-        }
-    }
-
-    /// It takes the memory, and panics where the bits are more than `MAX_BITS`.
-    impl<T: BitStore, O: BitOrder> From<Box<[T]>> for BitVec<T, O> {
-        #[track_caller]
-        fn from(elements: Box<[T]>) -> Self {
-            BitVec::from_vec(elements.into_vec())
-        }
-    }
-
-    impl<T: BitStore, O: BitOrder, const N: usize> From<[T; N]> for BitVec<T, O> {
-        #[track_caller]
-        fn from(elements: [T; N]) -> Self {
-            BitVec::from_slice(&elements)
-        }
-    }
-
-    impl<T: BitStore, O: BitOrder, const N: usize> From<BitArray<T, O, N>> for BitVec<T, O> {
-        #[track_caller]
-        fn from(bits: BitArray<T, O, N>) -> Self {
-            BitVec::from_slice(bits.as_raw_slice())
-        }
-    }
-
-    impl<T: BitStore, O: SliceOrder> From<BitSlice<'_, T, O>> for BitVec<T, O> {
-        #[track_caller]
-        fn from(bits: BitSlice<'_, T, O>) -> Self {
-            bits.to_bitvec()
-        }
-    }
-
-    impl<T: BitStore, O: SliceOrder> From<BitSliceMut<'_, T, O>> for BitVec<T, O> {
-        #[track_caller]
-        fn from(bits: BitSliceMut<'_, T, O>) -> Self {
-            bits.to_bitvec()
-        }
-    }
-
-    impl<T: BitStore, O: BitOrder, A: Allocator> From<BitVec<T, O, A>> for Vec<T> {
-        fn from(bits: BitVec<T, O, A>) -> Self {
-            bits.into_elements().into_std()
-        }
-    }
-
-    impl<'a, T: BitStore, O: BitOrder, A: Allocator> From<&'a BitVec<T, O, A>> for BitSlice<'a, T, O> {
-        fn from(bits: &'a BitVec<T, O, A>) -> Self {
-            bits.as_bitslice()
         }
     }
 

@@ -1,6 +1,7 @@
 //! Iterators over what owns its bits, and what is made of iterators' items.
 
 use crate::prelude::*;
+use crate::walks::walks;
 use core::fmt;
 use core::iter::FusedIterator;
 use core::ops::Range;
@@ -24,35 +25,7 @@ macro_rules! walked {
             }
         }
 
-        impl<$($generic)*> Iterator for Bools<$kind> {
-            type Item = bool;
-
-            #[inline]
-            fn next(&mut self) -> Option<bool> {
-                self.left.next().map(|index| self.bits.as_bitslice()[index])
-            }
-
-            #[inline]
-            fn nth(&mut self, skipped: usize) -> Option<bool> {
-                self.left.nth(skipped).map(|index| self.bits.as_bitslice()[index])
-            }
-
-            #[inline]
-            fn size_hint(&self) -> (usize, Option<usize>) {
-                self.left.size_hint()
-            }
-        }
-
-        impl<$($generic)*> DoubleEndedIterator for Bools<$kind> {
-            #[inline]
-            fn next_back(&mut self) -> Option<bool> {
-                self.left.next_back().map(|index| self.bits.as_bitslice()[index])
-            }
-        }
-
-        impl<$($generic)*> ExactSizeIterator for Bools<$kind> {}
-
-        impl<$($generic)*> FusedIterator for Bools<$kind> {}
+        walks!([$($generic)*] Bools<$kind>, bool, left, |walk, index| walk.bits.as_bitslice()[index]);
 
         impl<$($generic)*> fmt::Debug for Bools<$kind> {
             fn fmt(&self, f: &mut fmt::Formatter<'_>) -> fmt::Result {
@@ -157,27 +130,7 @@ mod owned {
         from: core::marker::PhantomData<&'s mut T>,
     }
 
-    impl<T: BitStore, O: BitOrder, A: Allocator> Iterator for Drain<'_, T, O, A> {
-        type Item = bool;
-
-        fn next(&mut self) -> Option<bool> {
-            self.taken.next()
-        }
-
-        fn size_hint(&self) -> (usize, Option<usize>) {
-            self.taken.size_hint()
-        }
-    }
-
-    impl<T: BitStore, O: BitOrder, A: Allocator> DoubleEndedIterator for Drain<'_, T, O, A> {
-        fn next_back(&mut self) -> Option<bool> {
-            self.taken.next_back()
-        }
-    }
-
-    impl<T: BitStore, O: BitOrder, A: Allocator> ExactSizeIterator for Drain<'_, T, O, A> {}
-
-    impl<T: BitStore, O: BitOrder, A: Allocator> FusedIterator for Drain<'_, T, O, A> {}
+    walks!([T: BitStore, O: BitOrder, A: Allocator] Drain<'_, T, O, A>, bool, taken.left, |walk, index| walk.taken.bits.as_bitslice()[index]);
 
     impl<T: BitStore, O: SliceOrder, A: Allocator + Clone> BitVec<T, O, A> {
         /// Takes out the bits of a range at once, and gives them.

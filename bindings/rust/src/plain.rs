@@ -5,100 +5,103 @@ use crate::memory::{granted, AllocError, Allocator, Global, Vec};
 use crate::prelude::*;
 use core::ops::RangeBounds;
 
-impl<T: BitStore, O: BitOrder, A: Allocator> BitVec<T, O, A> {
+/// Calls that give what another answers, or panic where it answers that memory was refused: `name(..) => call;`. Behind the call
+/// stand its name, where users may choose it, and in brackets where else it panics.
+macro_rules! plain {
+    ([$($generic:tt)*] $kind:ty {$(
+        $(#[$doc:meta])+
+        $name:ident $([$($parameter:tt)*])? ($($argument:tt)*) $(-> $answer:ty)? => $call:expr $(, $twin:ident)? $(, [$more:literal])?;
+    )*}) => {
+        impl<$($generic)*> $kind {$(
+            $(#[$doc])+
+            ///
+            /// # Panics
+            ///
+            #[doc = concat!("It panics where ", $($more, " or ",)? "memory is refused." $(, " [`", stringify!($twin), "`](BitVec::", stringify!($twin), ") answers a refusal.")?)]
+            #[inline]
+            #[track_caller]
+            pub fn $name $(<$($parameter)*>)? ($($argument)*) $(-> $answer)? {
+                granted($call)
+            }
+        )*}
+    };
+}
+
+plain! { [T: BitStore, O: BitOrder, A: Allocator] BitVec<T, O, A> {
     /// Adds a bit.
-    ///
-    /// # Panics
-    ///
-    /// It panics where memory is refused; [`try_push`](BitVec::try_push) answers that.
-    #[inline]
-    #[track_caller]
-    pub fn push(&mut self, bit: bool) {
-        granted(self.try_push(bit));
-    }
+    push(&mut self, bit: bool) => self.try_push(bit), try_push;
 
     /// Keeps the first `len` bits, or adds as many of `bit` as there are `len` with them.
-    ///
-    /// # Panics
-    ///
-    /// It panics where memory is refused; [`try_resize`](BitVec::try_resize) answers that.
-    #[track_caller]
-    pub fn resize(&mut self, len: usize, bit: bool) {
-        granted(self.try_resize(len, bit));
-    }
-
-    /// Keeps the first `len` bits, or adds the bits that a closure gives for their indices, until there are `len`.
-    ///
-    /// # Panics
-    ///
-    /// It panics where memory is refused.
-    #[track_caller]
-    pub fn resize_with<F: FnMut(usize) -> bool>(&mut self, len: usize, bit: F) {
-        let have = self.len();
-        self.truncate(len);
-        self.extend((have..len).map(bit));
-    }
+    resize(&mut self, len: usize, bit: bool) => self.try_resize(len, bit), try_resize;
 
     /// Makes room for so many bits more, at least.
-    ///
-    /// # Panics
-    ///
-    /// It panics where memory is refused; [`try_reserve`](BitVec::try_reserve) answers that.
-    #[track_caller]
-    pub fn reserve(&mut self, additional: usize) {
-        granted(self.try_reserve(additional));
-    }
+    reserve(&mut self, additional: usize) => self.try_reserve(additional), try_reserve;
 
     /// Makes room for so many bits more: [`reserve`](BitVec::reserve), since an allocator may give more than it is asked for.
-    ///
-    /// # Panics
-    ///
-    /// It panics where memory is refused.
-    #[track_caller]
-    pub fn reserve_exact(&mut self, additional: usize) {
-        self.reserve(additional);
-    }
+    reserve_exact(&mut self, additional: usize) => self.try_reserve(additional), try_reserve;
+
+    /// Keeps the first `len` bits, or adds the bits that a closure gives for their indices, until there are `len`.
+    resize_with[F: FnMut(usize) -> bool](&mut self, len: usize, bit: F) => {
+        let have = self.len();
+        self.truncate(len);
+        self.try_extend((have..len).map(bit))
+    };
 
     /// Adds the bits of a view, of any element type and order.
-    ///
-    /// # Panics
-    ///
-    /// It panics where memory is refused; [`try_extend_from_bitslice`](BitVec::try_extend_from_bitslice) answers that.
-    #[track_caller]
-    pub fn extend_from_bitslice(&mut self, bits: impl Bits) {
-        granted(self.try_extend_from_bitslice(bits.bits()));
-    }
+    extend_from_bitslice(&mut self, bits: impl Bits) => self.try_extend_from_bitslice(bits.bits()), try_extend_from_bitslice;
 
     /// Adds the bits of a list of truth values.
-    ///
-    /// # Panics
-    ///
-    /// It panics where memory is refused; [`try_extend_from_bools`](BitVec::try_extend_from_bools) answers that.
-    #[track_caller]
-    pub fn extend_from_bools(&mut self, bools: &[bool]) {
-        granted(self.try_extend_from_bools(bools));
-    }
+    extend_from_bools(&mut self, bools: &[bool]) => self.try_extend_from_bools(bools), try_extend_from_bools;
 
     /// Adds the lowest `len` bits of a number, the highest of them first.
-    ///
-    /// # Panics
-    ///
-    /// It panics where `len` is above 64 or memory is refused.
-    #[track_caller]
-    pub fn extend_highest_first(&mut self, number: u64, len: usize) {
-        granted(self.try_extend_highest_first(number, len));
-    }
+    extend_highest_first(&mut self, number: u64, len: usize) => self.try_extend_highest_first(number, len), try_extend_highest_first,
+        ["`len` is above 64"];
 
     /// Adds the lowest `len` bits of a number, the lowest first.
-    ///
-    /// # Panics
-    ///
-    /// It panics where `len` is above 64 or memory is refused.
-    #[track_caller]
-    pub fn extend_lowest_first(&mut self, number: u64, len: usize) {
-        granted(self.try_extend_lowest_first(number, len));
-    }
+    extend_lowest_first(&mut self, number: u64, len: usize) => self.try_extend_lowest_first(number, len), try_extend_lowest_first,
+        ["`len` is above 64"];
+} }
 
+plain! { [T: BitStore, O: SliceOrder, A: Allocator] BitVec<T, O, A> {
+    /// Puts a bit at an index, before the one that stands there.
+    insert(&mut self, index: usize, bit: bool) => self.try_insert(index, bit), try_insert, ["the index is above the length"];
+
+    /// Adds the bits of another sequence, which has none afterwards.
+    append[B: Allocator](&mut self, other: &mut BitVec<T, O, B>) => self.try_append(other), try_append;
+
+    /// Adds copies of the bits of a range.
+    extend_from_within(&mut self, range: impl RangeBounds<usize>) => {
+        let copy = self.part(range).to_bitvec();
+        self.try_extend_from_bitslice(copy.as_bitslice())
+    }, ["the range isn't one of the bits"];
+} }
+
+plain! { [T: BitStore, O: SliceOrder, A: Allocator + Clone] BitVec<T, O, A> {
+    /// The bits from an index on, which the sequence loses.
+    split_off(&mut self, at: usize) -> Self => self.try_split_off(at), try_split_off, ["the index is above the length"];
+} }
+
+plain! { [T: BitStore, O: BitOrder] BitVec<T, O> {
+    /// A sequence of no bit, with memory for so many.
+    with_capacity(bits: usize) -> Self => BitVec::try_with_capacity(bits), try_with_capacity;
+
+    /// So many of one bit.
+    repeat(bit: bool, len: usize) -> Self => BitVec::try_repeat(bit, len), try_repeat;
+
+    /// The bits of a list of truth values.
+    from_bools(bools: &[bool]) -> Self => BitVec::try_from_bools_in(Global, bools), try_from_bools_in;
+
+    /// The bits of a view, of any element type and order.
+    from_bitslice(bits: impl Bits) -> Self => BitVec::try_from_bitslice_in(Global, bits.bits()), try_from_bitslice_in;
+
+    /// All bits of one element.
+    from_element(element: T) -> Self => BitVec::try_from_slice(&[element]), try_from_slice;
+
+    /// All bits of the elements, which are copied.
+    from_slice(elements: &[T]) -> Self => BitVec::try_from_slice(elements), try_from_slice, ["they are more than `MAX_BITS`"];
+} }
+
+impl<T: BitStore, O: BitOrder, A: Allocator> BitVec<T, O, A> {
     /// Makes each element of the memory this one: `set_elements` of `bitvec`.
     pub fn set_elements(&mut self, element: T) {
         self.as_raw_mut_slice().fill(element);
@@ -120,54 +123,10 @@ fn before(window: crate::index::Window) -> crate::index::Window {
 }
 
 impl<T: BitStore, O: SliceOrder, A: Allocator> BitVec<T, O, A> {
-    /// Puts a bit at an index, before the one that stands there.
-    ///
-    /// # Panics
-    ///
-    /// It panics where the index is above the length or memory is refused; [`try_insert`](BitVec::try_insert) answers the latter.
-    #[track_caller]
-    pub fn insert(&mut self, index: usize, bit: bool) {
-        granted(self.try_insert(index, bit));
-    }
-
-    /// Adds the bits of another sequence, which has none afterwards.
-    ///
-    /// # Panics
-    ///
-    /// It panics where memory is refused; [`try_append`](BitVec::try_append) answers that.
-    #[track_caller]
-    pub fn append<B: Allocator>(&mut self, other: &mut BitVec<T, O, B>) {
-        granted(self.try_append(other));
-    }
-
-    /// Adds copies of the bits of a range.
-    ///
-    /// # Panics
-    ///
-    /// It panics where the range isn't one of the bits or memory is refused.
-    #[track_caller]
-    pub fn extend_from_within(&mut self, range: impl RangeBounds<usize>) {
-        let copy = self.part(range).to_bitvec();
-        self.extend_from_bitslice(&copy);
-    }
-
     /// Takes out each bit that is as the one before it.
     pub fn dedup(&mut self) {
         let mut last = None;
         self.retain(|_, &bit| last.replace(bit) != Some(bit));
-    }
-}
-
-impl<T: BitStore, O: SliceOrder, A: Allocator + Clone> BitVec<T, O, A> {
-    /// The bits from an index on, which the sequence loses.
-    ///
-    /// # Panics
-    ///
-    /// It panics where the index is above the length or memory is refused; [`try_split_off`](BitVec::try_split_off) answers the
-    /// latter.
-    #[track_caller]
-    pub fn split_off(&mut self, at: usize) -> Self {
-        granted(self.try_split_off(at))
     }
 }
 
@@ -177,74 +136,14 @@ impl<T: BitStore, O: BitOrder> BitVec<T, O> {
         BitVec::new_in(Global)
     }
 
-    /// A sequence of no bit, with memory for so many.
-    ///
-    /// # Panics
-    ///
-    /// It panics where memory is refused.
-    #[track_caller]
-    pub fn with_capacity(bits: usize) -> Self {
-        granted(BitVec::try_with_capacity(bits))
-    }
-
     /// A sequence of no bit, with memory for so many; the error where that is refused.
     pub fn try_with_capacity(bits: usize) -> Result<Self, AllocError> {
         BitVec::try_with_capacity_in(Global, bits)
     }
 
-    /// So many of one bit.
-    ///
-    /// # Panics
-    ///
-    /// It panics where memory is refused.
-    #[track_caller]
-    pub fn repeat(bit: bool, len: usize) -> Self {
-        granted(BitVec::try_repeat(bit, len))
-    }
-
     /// So many of one bit; the error where memory is refused.
     pub fn try_repeat(bit: bool, len: usize) -> Result<Self, AllocError> {
         BitVec::try_repeat_in(Global, bit, len)
-    }
-
-    /// The bits of a list of truth values.
-    ///
-    /// # Panics
-    ///
-    /// It panics where memory is refused.
-    #[track_caller]
-    pub fn from_bools(bools: &[bool]) -> Self {
-        granted(BitVec::try_from_bools_in(Global, bools))
-    }
-
-    /// The bits of a view, of any element type and order.
-    ///
-    /// # Panics
-    ///
-    /// It panics where memory is refused.
-    #[track_caller]
-    pub fn from_bitslice(bits: impl Bits) -> Self {
-        granted(BitVec::try_from_bitslice_in(Global, bits.bits()))
-    }
-
-    /// All bits of one element.
-    ///
-    /// # Panics
-    ///
-    /// It panics where memory is refused.
-    #[track_caller]
-    pub fn from_element(element: T) -> Self {
-        BitVec::from_slice(&[element])
-    }
-
-    /// All bits of the elements, which are copied.
-    ///
-    /// # Panics
-    ///
-    /// It panics where they are more than `MAX_BITS` or memory is refused.
-    #[track_caller]
-    pub fn from_slice(elements: &[T]) -> Self {
-        granted(BitVec::try_from_slice(elements))
     }
 
     /// All bits of the elements, which are copied; the error where they are more than `MAX_BITS` or memory is refused.
@@ -298,17 +197,12 @@ impl<T: BitStore, O: SliceOrder> BitVec<T, O> {
 /// Copies of what shows bits.
 macro_rules! copies {
     ([$($generic:tt)*] $kind:ty) => {
-        impl<$($generic)*> $kind {
+        plain! { [$($generic)*] $kind {
             /// A sequence of the same bits.
-            ///
-            /// # Panics
-            ///
-            /// It panics where memory is refused.
-            #[track_caller]
-            pub fn to_bitvec(&self) -> BitVec<T, O> {
-                granted(self.try_to_bitvec())
-            }
+            to_bitvec(&self) -> BitVec<T, O> => self.try_to_bitvec();
+        } }
 
+        impl<$($generic)*> $kind {
             /// A sequence of the same bits; the error where memory is refused.
             pub fn try_to_bitvec(&self) -> Result<BitVec<T, O>, AllocError> {
                 self.try_to_bitvec_in(Global)

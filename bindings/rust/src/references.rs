@@ -2,6 +2,7 @@
 
 use crate::prelude::*;
 use crate::proved::domain::BitPlace;
+use core::fmt;
 use core::ops::{Deref, DerefMut};
 
 /// One bit of a memory that is borrowed for writing: `BitRef<Mut, T, O>` of `bitvec`.
@@ -28,51 +29,84 @@ impl<'a, T: BitStore, O: BitOrder> BitRefMut<'a, T, O> {
         let bit = *place;
         BitRefMut { place, bit }
     }
+}
 
-    /// Sets or clears the bit.
-    #[inline]
-    pub fn set(&mut self, bit: bool) {
-        self.bit = bit;
-        self.place.set(bit);
-    }
+/// One bit among pieces of one memory, for writing: what is written by `*bit = ..` comes into the memory when it is dropped.
+pub struct BitCell<'a, T: BitStore, O: BitOrder> {
+    place: BitCells<'a, T, O>,
+    bit: bool,
+}
 
-    /// Sets or clears the bit, and gives the old one.
+impl<'a, T: BitStore, O: BitOrder> BitCell<'a, T, O> {
+    /// The bit of a piece at an index, which is there.
     #[inline]
-    pub fn replace(&mut self, bit: bool) -> bool {
-        let old = self.bit;
-        self.set(bit);
-        old
-    }
-
-    /// Sets or clears the bit, and ends the reference.
-    #[inline]
-    pub fn commit(mut self, bit: bool) {
-        self.bit = bit;
+    pub(crate) fn new(piece: &BitCells<'a, T, O>, index: usize) -> Self {
+        let place = piece.cut(index..index + 1);
+        let bit = place[0];
+        BitCell { place, bit }
     }
 }
 
-impl<T: BitStore, O: BitOrder> Deref for BitRefMut<'_, T, O> {
-    type Target = bool;
-
-    #[inline]
-    fn deref(&self) -> &bool {
-        &self.bit
+impl<T: BitStore, O: BitOrder> fmt::Debug for BitCell<'_, T, O> {
+    fn fmt(&self, f: &mut fmt::Formatter<'_>) -> fmt::Result {
+        self.bit.fmt(f)
     }
 }
 
-impl<T: BitStore, O: BitOrder> DerefMut for BitRefMut<'_, T, O> {
-    #[inline]
-    fn deref_mut(&mut self) -> &mut bool {
-        &mut self.bit
-    }
+/// What a reference does to its bit.
+macro_rules! written {
+    ($kind:ident, |$place:ident, $bit:ident| $write:expr) => {
+        impl<'a, T: BitStore, O: BitOrder> $kind<'a, T, O> {
+            /// Sets or clears the bit at once.
+            #[inline]
+            pub fn set(&mut self, $bit: bool) {
+                self.bit = $bit;
+                let $place = &mut self.place;
+                $write;
+            }
+
+            /// Sets or clears the bit at once, and gives the old one.
+            #[inline]
+            pub fn replace(&mut self, bit: bool) -> bool {
+                let old = self.bit;
+                self.set(bit);
+                old
+            }
+
+            /// Sets or clears the bit, and ends the reference.
+            #[inline]
+            pub fn commit(mut self, bit: bool) {
+                self.bit = bit;
+            }
+        }
+
+        impl<T: BitStore, O: BitOrder> Deref for $kind<'_, T, O> {
+            type Target = bool;
+
+            #[inline]
+            fn deref(&self) -> &bool {
+                &self.bit
+            }
+        }
+
+        impl<T: BitStore, O: BitOrder> DerefMut for $kind<'_, T, O> {
+            #[inline]
+            fn deref_mut(&mut self) -> &mut bool {
+                &mut self.bit
+            }
+        }
+
+        impl<T: BitStore, O: BitOrder> Drop for $kind<'_, T, O> {
+            #[inline]
+            fn drop(&mut self) {
+                self.set(self.bit);
+            }
+        }
+    };
 }
 
-impl<T: BitStore, O: BitOrder> Drop for BitRefMut<'_, T, O> {
-    #[inline]
-    fn drop(&mut self) {
-        self.place.set(self.bit);
-    }
-}
+written!(BitRefMut, |place, bit| place.set(bit));
+written!(BitCell, |place, bit| place.write(0, bit));
 
 /// Comparisons of a reference with a bit, from both sides.
 macro_rules! as_bool {
@@ -109,7 +143,7 @@ macro_rules! as_bool {
     )*};
 }
 
-as_bool!(BitRef BitRefMut);
+as_bool!(BitRef BitRefMut BitCell);
 
 impl<T: BitStore, O: BitOrder> From<BitRef<'_, T, O>> for bool {
     fn from(bit: BitRef<'_, T, O>) -> bool {

@@ -7,44 +7,43 @@ use crate::slice::{Cutting, ExactCutting, InChunks, InChunksFromEnd, InExactChun
 use core::iter::FusedIterator;
 use core::ops::Range;
 
-
 /// What comes from both ends by its number.
 macro_rules! walks {
-    ([$($generic:tt)*] $kind:ty, $item:ty, $numbers:ident, |$walk:ident, $number:ident| $made:expr) => {
+    ([$($generic:tt)*] $kind:ty, $item:ty, $($numbers:ident).+, |$walk:ident, $number:ident| $made:expr) => {
         impl<$($generic)*> Iterator for $kind {
             type Item = $item;
 
             #[inline]
             fn next(&mut self) -> Option<$item> {
-                let $number = self.$numbers.next()?;
+                let $number = self.$($numbers).+.next()?;
                 let $walk = self;
                 Some($made)
             }
 
             #[inline]
             fn nth(&mut self, skipped: usize) -> Option<$item> {
-                let $number = self.$numbers.nth(skipped)?;
+                let $number = self.$($numbers).+.nth(skipped)?;
                 let $walk = self;
                 Some($made)
             }
 
             #[inline]
             fn size_hint(&self) -> (usize, Option<usize>) {
-                self.$numbers.size_hint()
+                self.$($numbers).+.size_hint()
             }
         }
 
         impl<$($generic)*> DoubleEndedIterator for $kind {
             #[inline]
             fn next_back(&mut self) -> Option<$item> {
-                let $number = self.$numbers.next_back()?;
+                let $number = self.$($numbers).+.next_back()?;
                 let $walk = self;
                 Some($made)
             }
 
             #[inline]
             fn nth_back(&mut self, skipped: usize) -> Option<$item> {
-                let $number = self.$numbers.nth_back(skipped)?;
+                let $number = self.$($numbers).+.nth_back(skipped)?;
                 let $walk = self;
                 Some($made)
             }
@@ -52,9 +51,11 @@ macro_rules! walks {
 
         impl<$($generic)*> ExactSizeIterator for $kind {}
 
-        impl<$($generic)*> FusedIterator for $kind {}
+        impl<$($generic)*> core::iter::FusedIterator for $kind {}
     };
 }
+
+pub(crate) use walks;
 
 /// The bits of a piece, for writing, from both ends.
 pub struct IterMut<'a, T: BitStore, O: BitOrder> {

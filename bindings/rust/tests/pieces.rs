@@ -292,6 +292,7 @@ fn references_write_when_they_end_or_at_once() {
     drop(first);
     let (last, rest) = bits.split_last_mut().expect("a bit");
     rest.set(9, true);
+    assert!(last == true && true == last && last == &true && format!("{last:?}") == "true");
     last.commit(false);
     *bits.first_mut().expect("a bit") ^= true;
     if let Some(mut bit) = bits.get_mut(3) {
