@@ -162,8 +162,13 @@ def tests_of(item, stated, eraser, trait):
     return [test for test in (made.test(clause) for clause in stated.requires()) if test]
 
 
+def bare(rust):
+    """A value without parentheses around a cast."""
+    return re.sub(r"^\((\S+ as usize)\)$", r"\1", rust)
+
+
 def written(test, name, indent):
-    """A test as Rust."""
-    values = ", ".join(f'("{label}", &{rust})' for label, rust in test.values)
+    """A test as Rust. Where it fails it shows copies, so that no value has a place in memory where it doesn't."""
+    values = ", ".join(f'("{label}", &{{ {bare(rust)} }})' for label, rust in test.values)
     return (f"{indent}if {failing(test.rust)} {{\n"
             f'{indent}    crate::conditions::fails("{name}", "{test.words}", &[{values}]);\n{indent}}}\n')
