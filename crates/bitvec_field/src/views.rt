@@ -49,11 +49,13 @@ impl<'a, T: BitStore, O: FieldOrder> BitFieldMut for BitSliceMut<'a, T, O> {
 
     ghost writes_be = { λ before after number. writes_number_be O.HIGH T.BITS before after number };
 
+    #[inline(always)]
     fn store_le<I: Integral>(&mut self, value: I) {
         let window = self.window();
         store_le_in::<T, O, I>(self.elements_mut(Sealed), window, value);
     }
 
+    #[inline(always)]
     fn store_be<I: Integral>(&mut self, value: I) {
         let window = self.window();
         store_be_in::<T, O, I>(self.elements_mut(Sealed), window, value);

@@ -47,6 +47,7 @@ pub trait FieldOrder: WordOrder {
 
     /// Gives a window of `n` bits those for which `load_le` gives the number modulo `2^n`. It stores
     /// each element that the window touches once, and loads at most the first and the last.
+    #[inline(always)]
     fn store_le<C: Cells>(cells: &mut C, window: Window, number: u128)
         requires window { HasWindow C.Elem.BITS (C.numbers cells.old) window }
         requires bound { window.len ≤ 128 }
@@ -59,6 +60,7 @@ pub trait FieldOrder: WordOrder {
 
     /// Gives a window of `n` bits those for which `load_be` gives the number modulo `2^n`. It stores
     /// each element that the window touches once, and loads at most the first and the last.
+    #[inline(always)]
     fn store_be<C: Cells>(cells: &mut C, window: Window, number: u128)
         requires window { HasWindow C.Elem.BITS (C.numbers cells.old) window }
         requires bound { window.len ≤ 128 }
@@ -70,7 +72,7 @@ pub trait FieldOrder: WordOrder {
     }
 }
 
-// Both impls write the loads as the trait has them: a body that is taken over is compiled as a call, without the trait's mark.
+// Both impls write them as the trait has them: a body that is taken over is compiled as a call, without the trait's mark.
 
 impl FieldOrder for Lsb0 {
     #[inline(always)]
@@ -81,6 +83,16 @@ impl FieldOrder for Lsb0 {
     #[inline(always)]
     fn load_be<C: CellsRead>(cells: &mut C, window: Window) -> u128 {
         load::<true, Lsb0, C>(cells, window)
+    }
+
+    #[inline(always)]
+    fn store_le<C: Cells>(cells: &mut C, window: Window, number: u128) {
+        store::<false, Lsb0, C>(cells, window, number);
+    }
+
+    #[inline(always)]
+    fn store_be<C: Cells>(cells: &mut C, window: Window, number: u128) {
+        store::<true, Lsb0, C>(cells, window, number);
     }
 }
 
@@ -93,5 +105,15 @@ impl FieldOrder for Msb0 {
     #[inline(always)]
     fn load_be<C: CellsRead>(cells: &mut C, window: Window) -> u128 {
         load::<true, Msb0, C>(cells, window)
+    }
+
+    #[inline(always)]
+    fn store_le<C: Cells>(cells: &mut C, window: Window, number: u128) {
+        store::<false, Msb0, C>(cells, window, number);
+    }
+
+    #[inline(always)]
+    fn store_be<C: Cells>(cells: &mut C, window: Window, number: u128) {
+        store::<true, Msb0, C>(cells, window, number);
     }
 }

@@ -16,6 +16,7 @@ use bitvec_words::{WordOrder, touched};
 /// Gives a window the bits for which [`load`](crate::load) gives the number, without those of its bits for which the
 /// window is too short. Condition: as for [`load`](crate::load). It stores each element that the window touches once,
 /// loads at most the first and the last, and takes no loop where the window lies in few elements.
+#[inline(always)]
 pub fn store<const BIG: bool, O: WordOrder, C: Cells>(cells: &mut C, window: Window, number: u128)
     requires { HasNumber C.Elem.BITS (C.numbers cells.old) window }
     ensures writes { StoresIn BIG O.HIGH C.Elem.BITS O.at (C.numbers cells.old) (C.numbers cells.new) window number }
@@ -39,6 +40,7 @@ pub fn store<const BIG: bool, O: WordOrder, C: Cells>(cells: &mut C, window: Win
 }
 
 /// `store` of a window that reaches past its first element: straight where it lies in three.
+#[inline(always)]
 fn store_segments<const BIG: bool, O: WordOrder, C: Cells>(
     cells: &mut C,
     window: Window,
@@ -62,6 +64,7 @@ fn store_segments<const BIG: bool, O: WordOrder, C: Cells>(
 
 /// `store` of a window that begins where the element `element` does, isn't empty, and isn't longer than
 /// two elements.
+#[inline(always)]
 fn store_two<const BIG: bool, O: WordOrder, C: Cells>(
     cells: &mut C,
     window: Window,
