@@ -8,17 +8,13 @@ ghost use Rattle.bitvec_checked.specs.Every.{every, with_every};
 ghost use Rattle.bitvec_checked.specs.Statuses.{bits_from};
 
 use crate::status::{or_next, step_status, steps_status, window_status, windows_status};
+use crate::tuning::{BLOCK_ELEMENTS, FAR_STEP};
 use bitvec_base::{BitOrder, Window};
 use bitvec_domain::{bit_in, set_in};
 use bitvec_elements::{combine_block_in, fill_in};
 use bitvec_engine::SliceOrder;
 use bitvec_store::BitStore;
 use bitvec_words::BitOp;
-
-/// Steps above this one go bit by bit.
-const FAR: usize = 64;
-/// So many elements have the places of a step several times.
-const ROOM: usize = 512;
 
 /// Makes every so many bits of a window `bit`.
 pub fn fill_step<T: BitStore>(
@@ -103,7 +99,7 @@ fn fill_every_in<T: BitStore, O: SliceOrder>(
     requires some { 0 < step }
     ensures writes { Edits T.BITS O.at (map T.value elements.old) (map T.value elements.new) window (with_every step (λ k. bit)) }
 {
-    if step > FAR || window.len <= T::BITS as usize * FAR {
+    if step > FAR_STEP || window.len <= T::BITS as usize * FAR_STEP {
         fill_each::<T, O>(elements, window, step, bit);
     } else if bit {
         fill_blocks::<T, O>(elements, window, step, true, BitOp::Or);
@@ -161,7 +157,7 @@ fn count_each<T: BitStore, O: BitOrder>(elements: &[T], window: Window, step: us
 }
 
 /// [`fill_every_in`] by elements: a block has the bit at the places of the step, and the other bit elsewhere, and the
-/// operator brings it into the window. Conditions: the step is at most [`FAR`], and the operator leaves bits beside the
+/// operator brings it into the window. Conditions: the step is at most [`FAR_STEP`], and the operator leaves bits beside the
 /// other bit as they are.
 #[inline(always)]
 fn fill_blocks<T: BitStore, O: SliceOrder>(
@@ -180,8 +176,8 @@ fn fill_blocks<T: BitStore, O: SliceOrder>(
 {
     T::fits_in_memory();
     let bits = T::BITS as usize;
-    let mut block = [T::ZERO; ROOM + 1];
-    let room = ROOM * bits;
+    let mut block = [T::ZERO; BLOCK_ELEMENTS + 1];
+    let room = BLOCK_ELEMENTS * bits;
     let size = (room - room % step).min(window.len);
     let pattern = Window {
         start: window.start % bits,

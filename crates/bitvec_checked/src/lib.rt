@@ -73,6 +73,7 @@ mod scanning;
 mod shifted;
 mod status;
 mod transfers;
+mod tuning;
 
 pub use bits::{get, replace, set, swap_bits};
 pub use comparing::{compare, equal};

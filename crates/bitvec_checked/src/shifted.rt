@@ -6,15 +6,12 @@ ghost use Rattle.bitvec_base.specs.Memory.{list_in};
 ghost use Rattle.bitvec_base.specs.Spans.{HasSpan};
 ghost use Rattle.bitvec_words.specs.Moves.{Copies};
 
+use crate::tuning::SHORT_SHIFTED_BITS;
 use bitvec_base::Window;
 use bitvec_cells::{Exclusive, Shared};
 use bitvec_combine::{copy_shifted, equal_shifted};
 use bitvec_store::BitStore;
 use bitvec_words::WordOrder;
-
-/// Windows of fewer bits are short ones: their whole elements make at most eight vectors of 128 bits, so many that the
-/// compiler unrolls the loop over them whole.
-const SHORT_BITS: usize = 9 * 128;
 
 /// Whether two windows are short ones, as long, and begin at different indices of their elements, of at least 32 bits:
 /// narrower elements are faster where the compiler knows by how much it shifts.
@@ -26,7 +23,7 @@ pub(crate) fn are_short_shifted<T: BitStore>(window: Window, right_window: Windo
         && window.phase::<T>() != right_window.phase::<T>()
         && window.len == right_window.len
         && 0 < window.len
-        && window.len < SHORT_BITS
+        && window.len < SHORT_SHIFTED_BITS
 }
 
 /// Copies the bits of the right window.

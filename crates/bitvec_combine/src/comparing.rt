@@ -9,18 +9,12 @@ ghost use Rattle.bitvec_cells.specs.Cost.{equal_loads, touched_count};
 ghost use Rattle.bitvec_combine.specs.DifferLaws.{finds-both, finds-early, finds-none};
 ghost use Rattle.bitvec_combine.specs.Sides.{FindsDifference};
 
+use crate::tuning::{BITS_PER_SHORT_TEST, BITS_PER_TEST};
 use crate::{Act, Equal, Phases, Shifted, act_phased, act_short};
 use bitvec_base::{BitOrder, Part, Window, elements_of};
 use bitvec_cells::CellsRead;
 use bitvec_store::BitStore;
 use bitvec_words::{WORD_BITS, WordOrder};
-
-/// How many bits are compared before each test. A test after each single element would keep the loop
-/// from vector instructions; LLVM doesn't unroll longer loops over the widest elements, so they have none.
-const BITS_PER_TEST: usize = 2048;
-
-/// Compares windows that are shorter than that.
-const BITS_PER_SHORT_TEST: usize = 1024;
 
 /// The act that gathers in an element each bit that differs, and stops soon after one: after so many bits tested, or
 /// only behind all whole elements if these are 0.

@@ -12,14 +12,11 @@ use crate::acting::Act;
 use crate::acting_equal::Equal;
 use crate::acting_on_windows::{act, act_phased};
 use crate::acting_short::act_short;
+use crate::tuning::COPY_TURN;
 use bitvec_base::{BitOrder, Part, Window};
 use bitvec_cells::{Cells, CellsRead};
 use bitvec_store::BitStore;
 use bitvec_words::{WordOrder, store_part};
-
-/// How many shifted elements are copied in a turn: so many that the compiler makes vectors of them before it unrolls the
-/// turn. By its own choice a turn has two vectors, and takes up to twice as long where its jump falls badly.
-const TURN: usize = 64;
 
 /// The act that puts the other bits in the place of the window's.
 #[derive(Clone, Copy)]
@@ -32,7 +29,7 @@ impl<C: Cells> Act<C> for Put {
 
     #[inline(always)]
     fn turn() -> usize {
-        TURN
+        COPY_TURN
     }
 
     #[inline(always)]

@@ -10,6 +10,7 @@ mod combining;
 mod comparing;
 mod copying;
 mod phases;
+mod tuning;
 
 pub use acting::Act;
 pub use acting_equal::Equal;

@@ -13,6 +13,7 @@ mod moving_words;
 mod swapping;
 mod swapping_equal;
 mod swapping_shifted;
+mod tuning;
 
 pub use copying_within::copy_within;
 pub use moving::move_elements;

@@ -10,6 +10,7 @@ ghost use Rattle.bitvec_words.specs.Moves.{Copies, CopiesElements, HasSkippedEle
 
 use crate::head_of;
 use crate::moving_words::{goes_by_words, shift_words};
+use crate::tuning::MOVE_TURN;
 use bitvec_base::{BitOrder, Window};
 use bitvec_cells::{Cells, CellsRead};
 use bitvec_few::{load_short, store_short};
@@ -17,10 +18,6 @@ use bitvec_store::BitStore;
 use bitvec_words::{
     Carried, Lanes, Stretch, Whole, WordOrder, at_known_skip, known_skip_pays, whole_bits,
 };
-
-/// How many whole elements are moved in a turn: so many that the compiler makes vectors of them before it unrolls the turn. By
-/// its own choice a turn has two vectors, and takes up to twice as long where its jump falls badly.
-const TURN: usize = 128;
 
 /// Moves the bits of a window to another of the same length. Condition: both lie in the memory, and
 /// aren't empty. The bits at both edges are loaded before the whole elements between them are moved,
@@ -98,7 +95,7 @@ fn shift_elements<O: WordOrder, C: Cells, const LATER: bool>(
     }
 }
 
-/// Moves whole elements as they are, each with one load and one store: [`TURN`] of them in a turn, and then the rest.
+/// Moves whole elements as they are, each with one load and one store: [`MOVE_TURN`] of them in a turn, and then the rest.
 #[inline(always)]
 fn move_whole<O: BitOrder, C: Cells, const LATER: bool>(cells: &mut C, moved: Stretch)
     requires span { HasSpan C.Elem.BITS (C.numbers cells.old) (C.numbers cells.old) (elements_window C.Elem.BITS moved.first moved.count) (elements_window_from C.Elem.BITS moved.source 0 moved.count) }
@@ -106,12 +103,12 @@ fn move_whole<O: BitOrder, C: Cells, const LATER: bool>(cells: &mut C, moved: St
     ensures writes { CopiesElements C.Elem.BITS O.at (C.numbers cells.old) (C.numbers cells.new) (C.numbers cells.old) moved.first moved.source 0 moved.count }
     ensures cost { Costs C.CellsRead cells.old cells.new moved.count moved.count }
 {
-    let turns = moved.count / TURN;
+    let turns = moved.count / MOVE_TURN;
     for step in 0..turns {
-        let here = turn_place::<LATER>(step * TURN, TURN, moved.count);
-        move_each::<O, C, LATER>(cells, moved.first + here, moved.source + here, TURN);
+        let here = turn_place::<LATER>(step * MOVE_TURN, MOVE_TURN, moved.count);
+        move_each::<O, C, LATER>(cells, moved.first + here, moved.source + here, MOVE_TURN);
     }
-    let passed = turns * TURN;
+    let passed = turns * MOVE_TURN;
     let rest = moved.count - passed;
     let behind = turn_place::<LATER>(passed, rest, moved.count);
     move_each::<O, C, LATER>(cells, moved.first + behind, moved.source + behind, rest);

@@ -7,16 +7,11 @@ ghost use Rattle.bitvec_words.specs.Elements.{elements_window};
 
 use crate::pieces::{behind_pieces, left_behind, pieces_of};
 use crate::split::{split_head, split_tail};
+use crate::tuning::{COUNT_BLOCK_BITS, COUNT_BLOCK_WORDS};
 use crate::word_parts::WORD_BITS;
 use bitvec_base::{BitOrder, Window};
 use bitvec_cells::{CellsRead, count_part};
 use bitvec_store::BitStore;
-
-/// The words of a block.
-const BLOCK_WORDS: usize = 4;
-
-/// The bits of a block.
-const BLOCK_BITS: usize = BLOCK_WORDS * WORD_BITS;
 
 /// How many bits of a window are 1. Condition: the memory has at most `MAX_BITS` bits, and the window lies in it.
 /// It loads each element that the window touches once.
@@ -65,13 +60,13 @@ fn count_whole<O: BitOrder, C: CellsRead>(cells: &mut C, first: usize, count: us
     if C::Elem::BITS >= u64::BITS {
         return count_elements::<O, C>(cells, first, count);
     }
-    let blocks = pieces_of::<C::Elem>(BLOCK_BITS, count);
+    let blocks = pieces_of::<C::Elem>(COUNT_BLOCK_BITS, count);
     let mut ones = 0;
     for step in 0..blocks {
-        let block = behind_pieces::<C::Elem>(BLOCK_BITS, first, step);
-        ones += count_words::<C>(cells, block, BLOCK_WORDS);
+        let block = behind_pieces::<C::Elem>(COUNT_BLOCK_BITS, first, step);
+        ones += count_words::<C>(cells, block, COUNT_BLOCK_WORDS);
     }
-    let (next, left) = left_behind::<C::Elem>(BLOCK_BITS, first, count);
+    let (next, left) = left_behind::<C::Elem>(COUNT_BLOCK_BITS, first, count);
     ones + count_rest::<O, C>(cells, next, left)
 }
 

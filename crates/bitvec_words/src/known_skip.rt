@@ -1,18 +1,16 @@
 //! Loops that know by how much they shift.
 ghost use Rattle.std.specs.Prelude.{◌/◌, ◌≤◌, ◌↔◌, IsTrue};
 
+use crate::tuning::KNOWN_SKIP_BITS;
 use bitvec_base::elements_of;
 use bitvec_store::BitStore;
-
-/// The fewest bits of narrow elements for which a loop of its own for each shift pays.
-const MANY_BITS: usize = 512;
 
 /// Whether [`crate::at_known_skip`] pays: that many elements are of at most 16 bits and make 512 bits or more.
 #[inline(always)]
 pub fn known_skip_pays<T: BitStore>(count: usize) -> bool
     ensures { IsTrue result ↔ (T.BITS ≤ 16) × (512 / T.BITS ≤ count) }
 {
-    T::BITS <= u16::BITS && count >= elements_of::<T>(MANY_BITS)
+    T::BITS <= u16::BITS && count >= elements_of::<T>(KNOWN_SKIP_BITS)
 }
 
 /// A call in a branch of its own for each `skip` of elements of at most 16 bits (1 to 15), so that the

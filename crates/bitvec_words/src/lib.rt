@@ -17,6 +17,7 @@ mod scanning_words;
 mod split;
 mod stretch;
 mod touching;
+mod tuning;
 mod word_elements;
 mod word_order;
 mod word_parts;

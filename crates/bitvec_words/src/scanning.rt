@@ -8,14 +8,12 @@ ghost use Rattle.bitvec_words.specs.Elements.{elements_window};
 
 use crate::pieces::bit_behind;
 use crate::split::{elements_from_edge, split_head, split_tail};
+use crate::tuning::SCAN_TURN;
 use bitvec_base::{BitOrder, Part, Window};
 use bitvec_cells::{
     CellsRead, filled, first_in_element, first_in_part, last_in_element, last_in_part,
 };
 use bitvec_store::BitStore;
-
-/// The elements of a turn of a loop. A jump back costs as much as the comparison of an element.
-const TURN: usize = 4;
 
 /// The index of a window's first bit that is `want`, if there is one. Condition: the memory has at most `MAX_BITS`
 /// bits, and the window lies in it. It loads each element that the window touches at most once, from the first on,
@@ -152,10 +150,10 @@ fn last_whole<O: BitOrder, C: CellsRead>(
     ensures reads { OnlyReadsAtMost C.CellsRead cells.old cells.new
         (last_loads C.Elem.BITS (elements_window C.Elem.BITS first count) result) }
 {
-    let left = count % TURN;
-    for step in (0..count / TURN).rev() {
-        let passed = left + step * TURN;
-        if let Some(found) = last_of_turn::<O, C>(cells, first + passed, TURN, want) {
+    let left = count % SCAN_TURN;
+    for step in (0..count / SCAN_TURN).rev() {
+        let passed = left + step * SCAN_TURN;
+        if let Some(found) = last_of_turn::<O, C>(cells, first + passed, SCAN_TURN, want) {
             return Some(bit_behind::<C::Elem>(passed, found));
         }
     }

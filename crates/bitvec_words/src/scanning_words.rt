@@ -9,18 +9,13 @@ ghost use Rattle.bitvec_words.specs.Elements.{elements_window};
 use crate::pieces::{behind_pieces, left_behind, pieces_of, place_behind};
 use crate::scanning::{first_in_whole, first_whole};
 use crate::split::{elements_from_edge, split_head};
+use crate::tuning::{SCAN_BLOCK_BITS, SCAN_TURN_BITS};
 use crate::word_elements::{load_elements, load_word_behind, ordered};
 use crate::word_order::WordOrder;
 use crate::word_parts::WORD_BITS;
 use bitvec_base::{BitOrder, Lsb0, Window, elements_of};
 use bitvec_cells::{CellsRead, filled, first_in_part};
 use bitvec_store::BitStore;
-
-/// The bits of a block, which is four words.
-const BLOCK_BITS: usize = 4 * WORD_BITS;
-
-/// The bits of a turn, which is four blocks.
-const TURN_BITS: usize = 4 * BLOCK_BITS;
 
 /// The index of a window's first bit that is `want`, if there is one. Condition: the memory has at most `MAX_BITS`
 /// bits, and the window lies in it. It loads each element that the window touches at most once, those of a block
@@ -78,19 +73,19 @@ fn first_in_elements<O: WordOrder, C: CellsRead>(
         ≡ first_place want (list_in C.Elem.BITS O.at (C.numbers cells.old) (elements_window C.Elem.BITS first count)) }
     ensures reads { OnlyReadsAtMost C.CellsRead cells.old cells.new count }
 {
-    if count < elements_of::<C::Elem>(BLOCK_BITS) {
+    if count < elements_of::<C::Elem>(SCAN_BLOCK_BITS) {
         return first_in_rest::<O, C>(cells, first, count, want);
     }
-    let turns = pieces_of::<C::Elem>(TURN_BITS, count);
+    let turns = pieces_of::<C::Elem>(SCAN_TURN_BITS, count);
     for step in 0..turns {
-        let turn = behind_pieces::<C::Elem>(TURN_BITS, first, step);
+        let turn = behind_pieces::<C::Elem>(SCAN_TURN_BITS, first, step);
         if let Some(found) = first_in_blocks::<O, C>(cells, turn, 4, want) {
-            return Some(place_behind(TURN_BITS, step, found));
+            return Some(place_behind(SCAN_TURN_BITS, step, found));
         }
     }
-    let (next, left) = left_behind::<C::Elem>(TURN_BITS, first, count);
+    let (next, left) = left_behind::<C::Elem>(SCAN_TURN_BITS, first, count);
     let found = first_in_fewer::<O, C>(cells, next, left, want)?;
-    Some(place_behind(TURN_BITS, turns, found))
+    Some(place_behind(SCAN_TURN_BITS, turns, found))
 }
 
 /// The first of `count` elements: of blocks, and then of fewer elements.
@@ -106,13 +101,13 @@ fn first_in_fewer<O: WordOrder, C: CellsRead>(
         ≡ first_place want (list_in C.Elem.BITS O.at (C.numbers cells.old) (elements_window C.Elem.BITS first count)) }
     ensures reads { OnlyReadsAtMost C.CellsRead cells.old cells.new count }
 {
-    let blocks = pieces_of::<C::Elem>(BLOCK_BITS, count);
+    let blocks = pieces_of::<C::Elem>(SCAN_BLOCK_BITS, count);
     if let Some(found) = first_in_blocks::<O, C>(cells, first, blocks, want) {
         return Some(found);
     }
-    let (next, left) = left_behind::<C::Elem>(BLOCK_BITS, first, count);
+    let (next, left) = left_behind::<C::Elem>(SCAN_BLOCK_BITS, first, count);
     let found = first_in_rest::<O, C>(cells, next, left, want)?;
-    Some(place_behind(BLOCK_BITS, blocks, found))
+    Some(place_behind(SCAN_BLOCK_BITS, blocks, found))
 }
 
 /// The first of the elements of `count` blocks. The compiler unrolls the loop where they are those of a turn.
@@ -129,9 +124,9 @@ fn first_in_blocks<O: WordOrder, C: CellsRead>(
     ensures reads { OnlyReadsAtMost C.CellsRead cells.old cells.new (count * (256 / C.Elem.BITS)) }
 {
     for step in 0..count {
-        let block = behind_pieces::<C::Elem>(BLOCK_BITS, first, step);
+        let block = behind_pieces::<C::Elem>(SCAN_BLOCK_BITS, first, step);
         if let Some(found) = first_in_block::<O, C>(cells, block, want) {
-            return Some(place_behind(BLOCK_BITS, step, found));
+            return Some(place_behind(SCAN_BLOCK_BITS, step, found));
         }
     }
     None
