@@ -34,7 +34,7 @@ pub fn combine_in<T: BitStore, O: BitOrder, U: BitStore, P: BitOrder>(
         (list_in U.BITS P.at (map U.value right.now) from)) }
 {
     if !is_few(to.len) && T::BITS == U::BITS {
-        return_by_directions!(O, P, T => combine_converted::<_, T, U>(left, to, right, from, op));
+        return_by_directions!(O, T; P, T => combine_converted::<_, T, U>(left, to, right, from, op));
     }
     return_by_direction!(O, T => combine_run::<_, T, U, P>(left, to, right, from, op));
     let mut cells = Exclusive::new(left);

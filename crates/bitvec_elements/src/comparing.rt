@@ -6,11 +6,11 @@ ghost use Rattle.std.specs.Cmp.Lexicographic.{slice_cmp};
 ghost use Rattle.std.specs.Ordering.{bool_cmp};
 ghost use Rattle.bitvec_base.specs.Lists.{same_bits};
 ghost use Rattle.bitvec_base.specs.Memory.{HasWindow, list_in};
-ghost use Rattle.bitvec_base.specs.Spans.{HasSpan};
 ghost use Rattle.bitvec_elements.specs.Difference.{DiffersFrom};
 
 use crate::converting::eq_converted;
 use crate::difference::{common_bits, common_words};
+use crate::tuning::{COMPARE_TURN_BITS, SHORT_EQUAL_BITS};
 use bitvec_base::{BitOrder, Window};
 use bitvec_cells::{Shared, get_bit};
 use bitvec_engine::SliceOrder;
@@ -20,15 +20,10 @@ use bitvec_store::BitStore;
 use bitvec_words::WordOrder;
 use std::cmp::Ordering;
 
-/// How many equal bits [`compare_block_in`] passes at a time.
-const EQUAL_BITS: usize = 4096;
-
-/// Windows of fewer bits are short ones to [`eq_blocks_in`].
-const SHORT_BITS: usize = 2048;
-
 /// Whether two windows have the same bits. Where both have elements of one width and orders that run
-/// the same way, they are compared by whole elements, as of one type; otherwise by blocks. Condition:
-/// each memory has at most `MAX_BITS` bits, and each window lies in its memory.
+/// the same way, they are compared by whole elements, as of one type; otherwise by blocks. So few bits as a word has are compared as
+/// words. Condition: each memory has at most `MAX_BITS` bits, and each window lies in its memory.
+#[inline(always)]
 pub fn eq_in<T: BitStore, O: BitOrder, U: BitStore, P: BitOrder>(
     left: &[T],
     left_window: Window,
@@ -43,8 +38,28 @@ pub fn eq_in<T: BitStore, O: BitOrder, U: BitStore, P: BitOrder>(
     if left_window.len != right_window.len {
         return false;
     }
+    if is_few(left_window.len) {
+        return_by_directions!(O, T; P, U => eq_few::<_, T, U>(left, left_window, right, right_window));
+    }
+    eq_many::<T, O, U, P>(left, left_window, right, right_window)
+}
+
+/// [`eq_in`] of two windows of the same length. It stays out of line, so that few bits save no registers for it.
+#[inline(never)]
+fn eq_many<T: BitStore, O: BitOrder, U: BitStore, P: BitOrder>(
+    left: &[T],
+    left_window: Window,
+    right: &[U],
+    right_window: Window,
+) -> bool
+    requires window { HasWindow T.BITS (map T.value left.now) left_window }
+    requires right_window { HasWindow U.BITS (map U.value right.now) right_window }
+    requires lengths { left_window.len ≡ right_window.len }
+    ensures { result ≡ same_bits (list_in T.BITS O.at (map T.value left.now) left_window)
+        (list_in U.BITS P.at (map U.value right.now) right_window) }
+{
     if !is_few(left_window.len) && T::BITS == U::BITS {
-        return_by_directions!(O, P, T => eq_converted::<_, T, U>(left, left_window, right, right_window));
+        return_by_directions!(O, T; P, T => eq_converted::<_, T, U>(left, left_window, right, right_window));
     }
     common_bits::<T, O, U, P>(left, left_window, right, right_window) == left_window.len
 }
@@ -67,7 +82,7 @@ pub fn eq_block_in<T: BitStore, O: SliceOrder>(
         return false;
     }
     if is_few(left_window.len) {
-        return_by_direction!(O, T => eq_few::<_, T>(left, left_window, right, right_window));
+        return_by_direction!(O, T => eq_few::<_, T, T>(left, left_window, right, right_window));
     }
     eq_blocks_in::<T, O>(left, left_window, right, right_window)
 }
@@ -90,7 +105,7 @@ pub fn eq_blocks_in<T: BitStore, O: SliceOrder>(
     let mut left = Shared::new(left);
     let mut right = Shared::new(right);
     let is_whole = left_window.len % T::BITS as usize == 0;
-    if has_edges && is_whole && left_window.len < SHORT_BITS {
+    if has_edges && is_whole && left_window.len < SHORT_EQUAL_BITS {
         return elements_eq::<O, Shared<T>, Shared<T>>(
             &mut left,
             left_window,
@@ -101,21 +116,23 @@ pub fn eq_blocks_in<T: BitStore, O: SliceOrder>(
     O::block_eq::<Shared<T>, Shared<T>>(&mut left, left_window, &mut right, right_window)
 }
 
-/// [`eq_block_in`] of two windows of the same length, at most 64 bits, as words.
+/// [`eq_in`] of two windows of the same length, at most 64 bits, as words.
 #[inline(always)]
-fn eq_few<W: WordOrder, T: BitStore>(
+fn eq_few<W: WordOrder, T: BitStore, U: BitStore>(
     left: &[T],
     left_window: Window,
-    right: &[T],
+    right: &[U],
     right_window: Window,
 ) -> bool
-    requires span { HasSpan T.BITS (map T.value left.now) (map T.value right.now) left_window right_window }
+    requires window { HasWindow T.BITS (map T.value left.now) left_window }
+    requires right_window { HasWindow U.BITS (map U.value right.now) right_window }
+    requires lengths { left_window.len ≡ right_window.len }
     requires bound { left_window.len ≤ 64 }
     ensures { result ≡ same_bits (list_in T.BITS W.at (map T.value left.now) left_window)
-        (list_in T.BITS W.at (map T.value right.now) right_window) }
+        (list_in U.BITS W.at (map U.value right.now) right_window) }
 {
     let word = load_parts::<W, Shared<T>>(&mut Shared::new(left), left_window);
-    word == load_parts::<W, Shared<T>>(&mut Shared::new(right), right_window)
+    word == load_parts::<W, Shared<U>>(&mut Shared::new(right), right_window)
 }
 
 /// How the bits of two windows compare, in the order of lists of truth values. Condition: as for
@@ -178,7 +195,7 @@ pub fn compare_block_in<T: BitStore, O: SliceOrder>(
     let len = left_window.len.min(right_window.len);
     let mut from = 0;
     while from < len {
-        let to = from + EQUAL_BITS.min(len - from);
+        let to = from + COMPARE_TURN_BITS.min(len - from);
         let part = left_window.range(from, to);
         let other = right_window.range(from, to);
         if !eq_blocks_in::<T, O>(left, part, right, other) {

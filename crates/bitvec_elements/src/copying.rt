@@ -8,8 +8,9 @@ ghost use Rattle.bitvec_base.specs.Spans.{HasSpan};
 ghost use Rattle.bitvec_words.specs.Moves.{Copies};
 
 use crate::converting::copy_converted;
-use crate::copying_elements::{AT_ONCE_BITS, copy_elements_in, copy_whole_in};
+use crate::copying_elements::{copy_elements_in, copy_whole_in};
 use crate::recutting::recut;
+use crate::tuning::COPY_AT_ONCE_BITS;
 use crate::window_words::window_word;
 use bitvec_base::{BitOrder, Window};
 use bitvec_cells::{Exclusive, Shared};
@@ -35,7 +36,7 @@ pub fn copy_from_in<T: BitStore, O: BitOrder, U: BitStore, P: BitOrder>(
         (list_in U.BITS P.at (map U.value right.now) from) }
 {
     if !is_few(to.len) && T::BITS == U::BITS {
-        return_by_directions!(O, P, T => copy_converted::<_, T, U>(left, to, right, from));
+        return_by_directions!(O, T; P, T => copy_converted::<_, T, U>(left, to, right, from));
     }
     return_by_direction!(O, T => recut::<_, P, T, U>(left, to, right, from));
     let mut cells = Exclusive::new(left);
@@ -119,7 +120,7 @@ fn copy_parted_in<T: BitStore, O: SliceOrder>(left: &mut [T], to: Window, right:
     requires { HasSpan T.BITS (map T.value left.old) (map T.value right.now) to from }
     ensures { Copies T.BITS O.at (map T.value left.old) (map T.value left.new) to (map T.value right.now) from }
 {
-    if to.len >= AT_ONCE_BITS && to.phase::<T>() == from.phase::<T>() {
+    if to.len >= COPY_AT_ONCE_BITS && to.phase::<T>() == from.phase::<T>() {
         copy_elements_in::<T, O>(left, to, right, from);
         return;
     }

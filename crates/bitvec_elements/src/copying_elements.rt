@@ -8,9 +8,6 @@ use bitvec_cells::Exclusive;
 use bitvec_store::BitStore;
 use bitvec_words::store_part;
 
-/// The least number of bits that are copied as whole elements at once.
-pub(crate) const AT_ONCE_BITS: usize = 256;
-
 /// Copies the bits of the right window, which begins at the same index of an element, under any order.
 /// Conditions: as for [`crate::copy_from_in`], and the windows have at least as many bits as an element.
 pub(crate) fn copy_elements_in<T: BitStore, O: BitOrder>(

@@ -7,14 +7,12 @@ ghost use Rattle.bitvec_elements.specs.Difference.{DiffersFrom};
 
 use crate::comparing::eq_blocks_in;
 use crate::recutting::{hold, room_of};
+use crate::tuning::NO_BLOCK_BITS;
 use crate::window_words::window_word;
 use bitvec_base::{BitOrder, Lsb0, Msb0, Window};
 use bitvec_engine::{Direction, SliceOrder, direction_of};
 use bitvec_store::BitStore;
 use bitvec_words::{WORD_BITS, WordOrder};
-
-/// So few bits are compared with no block.
-const FEW_BITS: usize = 2048;
 
 /// How many of their first bits two windows have in common, up to the length of the shorter one.
 /// Condition: each memory has at most `MAX_BITS` bits, and each window lies in its memory.
@@ -29,7 +27,7 @@ pub(crate) fn common_bits<T: BitStore, O: BitOrder, U: BitStore, P: BitOrder>(
     ensures { DiffersFrom (list_in T.BITS O.at (map T.value left.now) left_window)
         (list_in U.BITS P.at (map U.value right.now) right_window) result }
 {
-    if left_window.len.min(right_window.len) <= FEW_BITS {
+    if left_window.len.min(right_window.len) <= NO_BLOCK_BITS {
         return common_words::<T, O, U, P>(left, left_window, right, right_window);
     }
     return_by_direction!(O, T => common_run::<_, T, U, P>(left, left_window, right, right_window));

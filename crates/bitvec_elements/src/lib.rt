@@ -18,12 +18,12 @@ macro_rules! return_by_direction {
     };
 }
 
-/// [`return_by_direction`] for two orders: it returns where both run up through an element, or both down.
+/// [`return_by_direction`] for two orders, each of an element: it returns where both run up through theirs, or both down.
 macro_rules! return_by_directions {
-    ($order:ty, $other:ty, $element:ty => $function:ident::<_ $(, $kind:ty)*>($($argument:expr),* $(,)?)) => {
+    ($order:ty, $element:ty; $other:ty, $other_element:ty => $function:ident::<_ $(, $kind:ty)*>($($argument:expr),* $(,)?)) => {
         match (
             bitvec_engine::direction_of::<$order, $element>(),
-            bitvec_engine::direction_of::<$other, $element>(),
+            bitvec_engine::direction_of::<$other, $other_element>(),
         ) {
             (bitvec_engine::Direction::Up, bitvec_engine::Direction::Up) => {
                 return $function::<bitvec_base::Lsb0 $(, $kind)*>($($argument),*);
@@ -62,6 +62,7 @@ mod prefixes;
 mod recutting;
 mod scanning;
 mod swapping;
+mod tuning;
 mod window_words;
 
 pub use combining::{combine_block_in, combine_in};

@@ -1,18 +1,58 @@
 //! The first and the last bit of a window of a slice of elements that is 1, or 0.
-ghost use Rattle.std.specs.Prelude.{◌≡◌, map};
+ghost use Rattle.std.specs.Prelude.{◌≡◌, ◌≤◌, map};
 ghost use Rattle.std.specs.List.{list_all, list_any};
 ghost use Rattle.bitvec_base.specs.Lists.{first_place, last_place};
 ghost use Rattle.bitvec_base.specs.Memory.{HasWindow, list_in};
 
-use bitvec_base::Window;
-use bitvec_cells::Shared;
+use crate::window_words::is_at_once;
+use bitvec_base::{Part, Window};
+use bitvec_cells::{Shared, first_in_element};
 use bitvec_engine::{SliceOrder, all, any};
+use bitvec_few::load_parts;
 use bitvec_store::BitStore;
+use bitvec_words::WordOrder;
 
-/// The index of a window's first bit that is `want`, if there is one. Condition: the memory has at
-/// most `MAX_BITS` bits, and the window lies in it.
+/// The index of a window's first bit that is `want`, if there is one. So few bits as are loaded at once are searched as a word.
+/// Condition: the memory has at most `MAX_BITS` bits, and the window lies in it.
+#[tactic(auto, using(crate::proofs::Directions::by_direction))]
 #[inline(always)]
 pub fn find_first_in<T: BitStore, O: SliceOrder>(
+    elements: &[T],
+    window: Window,
+    want: bool,
+) -> Option<usize>
+    requires window { HasWindow T.BITS (map T.value elements.now) window }
+    ensures { result ≡ first_place want (list_in T.BITS O.at (map T.value elements.now) window) }
+{
+    if is_at_once::<T>(window.len) {
+        return_by_direction!(O, T => find_first_few::<_, T>(elements, window, want));
+    }
+    find_first_many::<T, O>(elements, window, want)
+}
+
+/// [`find_first_in`] of at most 64 bits, as a word.
+#[inline(always)]
+fn find_first_few<W: WordOrder, T: BitStore>(
+    elements: &[T],
+    window: Window,
+    want: bool,
+) -> Option<usize>
+    requires window { HasWindow T.BITS (map T.value elements.now) window }
+    requires bound { window.len ≤ 64 }
+    ensures { result ≡ first_place want (list_in T.BITS W.at (map T.value elements.now) window) }
+{
+    let word = load_parts::<W, Shared<T>>(&mut Shared::new(elements), window);
+    let bits = Part {
+        element: 0,
+        from: 0,
+        to: window.len,
+    };
+    first_in_element::<W, u64>(word, bits, want)
+}
+
+/// [`find_first_in`] by the order. It stays out of line, so that few bits save no registers for it.
+#[inline(never)]
+fn find_first_many<T: BitStore, O: SliceOrder>(
     elements: &[T],
     window: Window,
     want: bool,

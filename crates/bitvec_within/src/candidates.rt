@@ -3,12 +3,9 @@ ghost use Rattle.std.specs.Prelude.{◌≡◌, ℕ, ◌<◌, ◌≤◌, false, s
 ghost use Rattle.bitvec_base.specs.Memory.{element_bits};
 ghost use Rattle.bitvec_within.specs.Candidates.{HasStarts};
 
+use crate::tuning::PASSES_PER_TEST;
 use bitvec_base::BitOrder;
 use bitvec_words::{WordOrder, joined, toward_start};
-
-/// How many bits of the needle [`candidates`] compares before it asks whether any place is left: in a
-/// row, with no jump in between.
-const PASSES_PER_TEST: usize = 8;
 
 /// A word with a 1 at each of 64 indices from which two words side by side have the first `count`
 /// bits of the needle. Condition: `count` is at most 64.

@@ -8,6 +8,7 @@ ghost use Rattle.bitvec_words.specs.Operator.{operator};
 ghost use Rattle.bitvec_within.specs.Combined.{combined_within};
 ghost use Rattle.bitvec_within.specs.Ranges.{AreSides, CombinesRanges, HasRanges, LieInOrder, first_of, joined_sides, rest_of};
 
+use crate::tuning::ASIDE;
 use bitvec_base::Window;
 use bitvec_elements::combine_block_in;
 use bitvec_engine::SliceOrder;
@@ -56,7 +57,10 @@ pub fn combine_within_in<T: BitStore, O: SliceOrder>(
     let (from, to) = (window.start + src.start, window.start + dest);
     let len = src.end - src.start;
     let ranges = Ranges { from, to, len };
-    if from + len <= to {
+    let bits = T::BITS as usize;
+    if elements.len() >= ASIDE && len % bits != 0 && from % bits + len <= ASIDE * bits {
+        combine_aside::<T, O, ASIDE>(elements, ranges, op);
+    } else if from + len <= to {
         combine_apart::<T, O, true>(elements, ranges, op);
     } else if to + len <= from {
         combine_apart::<T, O, false>(elements, ranges, op);
@@ -65,7 +69,7 @@ pub fn combine_within_in<T: BitStore, O: SliceOrder>(
     }
 }
 
-/// CombinesRanges ranges that lie apart. Whole elements of both go by a way of their own.
+/// Combines ranges that lie apart. Whole elements of both go by a way of their own.
 #[inline(always)]
 fn combine_apart<T: BitStore, O: SliceOrder, const LATER: bool>(
     elements: &mut [T],
@@ -170,7 +174,7 @@ fn combine_cut<T: BitStore, O: SliceOrder, const LATER: bool>(
     combine_block_in::<T, O>(left, windows.0, &*right, windows.1, op);
 }
 
-/// CombinesRanges ranges that overlap. The source is held aside, in an array where the memory has as many elements.
+/// Combines ranges that overlap. The source is held aside, in an array where the memory has as many elements.
 #[inline(always)]
 fn combine_overlapping<T: BitStore, O: SliceOrder>(elements: &mut [T], ranges: Ranges, op: BitOp)
     requires ranges { HasRanges T.BITS (map T.value elements.old) ranges }
@@ -281,7 +285,7 @@ fn combine_aside<T: BitStore, O: SliceOrder, const HELD: usize>(
     }
 }
 
-/// CombinesRanges ranges, of which the elements that are read are held aside in another memory. Conditions: they are no more
+/// Combines ranges, of which the elements that are read are held aside in another memory. Conditions: they are no more
 /// than it has, and it has no more than the memory.
 #[inline(always)]
 fn combine_held<T: BitStore, O: SliceOrder>(

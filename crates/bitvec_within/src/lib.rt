@@ -10,6 +10,7 @@ mod reversing;
 mod rotating;
 mod shifting;
 mod swapping_within;
+mod tuning;
 
 pub use combining_within::combine_within_in;
 pub use copying_within::copy_within_in;

@@ -9,3 +9,6 @@ returns-then-to-len g c = record { writes = window-edited c.requires.window c.re
 
 pub returns-else-to-len : goal.returns-else-to-len
 returns-else-to-len g c = record { writes = window-edited c.requires.window c.requires.fits c.combine_overlapping.ensures.combines }
+
+pub returns-then-from-bits : goal.returns-then-from-bits
+returns-then-from-bits g c = record { writes = window-edited c.requires.window c.requires.fits c.combine_aside.ensures.combines }
