@@ -4,7 +4,7 @@ ghost use Rattle.bitvec_base.specs.Window.{max_bits};
 
 use bitvec_base::{BitOrder, Window};
 use bitvec_domain::{BitRefMut, for_each_in};
-use bitvec_slice::{BitSlice, BitSliceMut, Sealed, ViewMut, phase_of, touched_range};
+use bitvec_slice::{BitSlice, BitSliceMut, Sealed, ViewMut, touched_part};
 use bitvec_store::BitStore;
 use std::marker::PhantomData;
 
@@ -228,10 +228,13 @@ impl<'a, T: BitStore, O: BitOrder> IterMut<'a, T, O> {
         ensures* writes_back { sem 𝓛 (lends_bits T.row O.row self.entry from to (name_of result)) }
         ensures part { IsRangeOf T.BITS (bit_walk_of self.old).view from to (seen_mut result) }
     {
-        let start = self.head + from;
-        let touched = touched_range::<T>(start, self.head + to);
-        let elements = self.elements_part_mut(touched.start, touched.end);
-        BitSliceMut::from_parts(elements, phase_of::<T>(start), to - from)
+        let window = Window {
+            start: self.head,
+            len: self.len,
+        };
+        let part = touched_part::<T>(self.elements.len(), window, from, to);
+        let elements = self.elements_part_mut(part.first, part.end);
+        BitSliceMut::from_parts(elements, part.head, part.len)
     }
 
     pub(crate) fn elements_part_mut(&mut self, start: usize, end: usize) -> &mut [T]

@@ -5,7 +5,7 @@ ghost use Rattle.bitvec_base.specs.Window.{max_bits};
 use crate::split_state::{SplitState, look};
 use crate::{AtMost, Every, SplitLimit};
 use bitvec_base::{BitOrder, Window};
-use bitvec_slice::{BitSlice, BitSliceMut, Sealed, ViewMut, phase_of, touched_range};
+use bitvec_slice::{BitSlice, BitSliceMut, Sealed, ViewMut, touched_part};
 use bitvec_split::{Forward, Inclusive, Reversed, SplitKind};
 use bitvec_store::BitStore;
 use std::marker::PhantomData;
@@ -236,10 +236,13 @@ impl<'a, T: BitStore, O: BitOrder, P, W, L> SplitsMut<'a, T, O, P, W, L> {
         ensures* writes_back { sem 𝓛 (lends_bits T.row O.row P.row W.row L.row self.entry from to (name_of result)) }
         ensures part { IsRangeOf T.BITS (left_in self.old).view from to (seen_mut result) }
     {
-        let start = self.head + from;
-        let cells = touched_range::<T>(start, self.head + to);
-        let elements = self.elements_part_mut(cells.start, cells.end);
-        BitSliceMut::from_parts(elements, phase_of::<T>(start), to - from)
+        let window = Window {
+            start: self.head,
+            len: self.len,
+        };
+        let part = touched_part::<T>(self.elements.len(), window, from, to);
+        let elements = self.elements_part_mut(part.first, part.end);
+        BitSliceMut::from_parts(elements, part.head, part.len)
     }
 
     fn elements_part_mut(&mut self, start: usize, end: usize) -> &mut [T]

@@ -1,5 +1,5 @@
 -- The bits that a view shows of a whole memory, and of a part of a view.
-use Rattle.std.specs.Prelude.{◌≡◌, ℕ, ◌+◌, ◌-◌, ◌*◌, ◌%◌, ◌≤◌, List, [], length, map, slice_range, refl}
+use Rattle.std.specs.Prelude.{◌≡◌, ℕ, ◌+◌, ◌-◌, ◌*◌, ◌%◌, ◌<◌, ◌≤◌, List, [], length, map, slice_range, refl}
 use Rattle.std.proofs.Common.{arith, sym, ◌∙◌, ap}
 use Rattle.std.proofs.lemmas.List.{length-map, nil_from_length}
 use Rattle.bitvec_base.specs.Memory.{HasWindow, memory_bits}
@@ -8,8 +8,6 @@ use Rattle.bitvec_base.specs.SliceLaws.{range-all, range-map}
 use Rattle.bitvec_base.specs.Window.{IsWithin, max_bits, window_of}
 use Rattle.bitvec_base.specs.WindowLaws.{length-window}
 use Rattle.bitvec_base.specs.WriteLaws.{range-range}
-use Rattle.bitvec_store.specs.Width.{IsWidth}
-use Rattle.bitvec_store.specs.WidthLaws.{width_some}
 use Rattle.bitvec_slice.specs.Seen.{CoversElements, IsEmpty, IsRangeOf, IsWhole, Seen, shown}
 use Rattle.bitvec_slice.specs.Touched.{touched_elements}
 use Rattle.bitvec_slice.specs.TouchedLaws.{touched-bits}
@@ -57,16 +55,16 @@ module _ {T : Type 0} (b : ℕ) (at : ℕ → ℕ → ℕ) (value : T → ℕ) w
     length_bits = length-window (memory_bits b at (map value elements)) (shown b at value elements start len).window within_memory
 
     -- A view of the elements that a range of a view's bits touches, at the range's place, is that range of the view.
-    pub part_view : (part : Seen T) (from to : ℕ) → IsWidth b → from ≤ to → to ≤ len
+    pub part_view : (part : Seen T) (from to : ℕ) → 0 < b → from ≤ to → to ≤ len
         → part ≡ shown b at value (touched_elements b elements (start + from) (start + to)) ((start + from) % b) (to - from) → IsRangeOf b (shown b at value elements start len) from to part
     unfolding window_of
-    part_view part from to wide order bound is =
+    part_view part from to some order bound is =
         let xs = map value elements in
         let product = ap (λ (n : ℕ). b * n) (length-map elements value) in
         let long = length-memory elements in
         rw is (record {
           bits = ap (λ (ys : List ℕ). slice_range (memory_bits b at ys) ((start + from) % b) ((start + from) % b + (to - from))) (range-map value elements _ _)
-              ∙ touched-bits b at xs (start + from) (start + to) (to - from) (width_some b wide) (omega arith) (omega arith)
+              ∙ touched-bits b at xs (start + from) (start + to) (to - from) some (omega arith) (omega arith)
               ∙ sym (range-range (memory_bits b at xs) start (start + len) from to (omega arith) (omega arith));
           elements = refl;
           start = refl;

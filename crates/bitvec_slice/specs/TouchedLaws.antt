@@ -8,7 +8,15 @@ use Rattle.bitvec_base.specs.Memory.{memory_bits}
 use Rattle.bitvec_base.specs.MemoryLaws.{length-memory_bits, memory-range}
 use Rattle.bitvec_base.specs.SliceLaws.{range-same}
 use Rattle.bitvec_base.specs.WriteLaws.{length-slice_range, range-range}
-use Rattle.bitvec_slice.specs.Touched.{Touches, end_touched, first_touched, touched_elements}
+use Rattle.bitvec_slice.specs.Touched.{end_touched, first_touched, touched_elements}
+
+-- they are some of n elements, and the places are theirs from the index `start % b` of the first on
+pub record Touches (b n start end : ℕ) : Type 0 where
+  pub order : first_touched b start ≤ end_touched b end
+  pub bound : end_touched b end ≤ n
+  pub begins : first_touched b start * b + start % b ≡ start
+  pub index : start % b < b
+  pub holds : start % b + (end - start) ≤ b * (end_touched b end - first_touched b start)
 
 module _ (b n start end : ℕ) (some : 0 < b) (order : start ≤ end) (bound : end ≤ b * n) where
   -- The elements that a range of places touches are in order, among the `n`, and hold the range.

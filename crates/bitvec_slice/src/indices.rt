@@ -1,9 +1,9 @@
 //! Indices of a view, and ranges of them.
 ghost use Rattle.std.specs.Prelude.{◌≡◌, ◌+◌, ◌<◌, false, slice_index_or};
 
-use crate::touching::{phase_of, touched_range};
+use crate::touching::touched_part;
 use crate::{BitSlice, BitSliceIndex, BitSliceMut};
-use bitvec_base::BitOrder;
+use bitvec_base::{BitOrder, Window};
 use bitvec_domain::{BitRef, BitRefMut, bit_in};
 use bitvec_store::BitStore;
 use std::ops::{Index, Range};
@@ -108,11 +108,13 @@ impl<'a, T: BitStore, O: BitOrder> BitSliceMut<'a, T, O> {
         ensures* writes_back { sem 𝓛 (lends_bits T.row O.row self.entry range.start range.end (name_of result)) }
         ensures part { IsRangeOf T.BITS (seen_mut self.old) range.start range.end (seen_mut result) }
     {
-        let window = self.window();
-        let start = window.start + range.start;
-        let touched = touched_range::<T>(start, window.start + range.end);
-        let elements = self.elements_part_mut(touched.start, touched.end);
-        BitSliceMut::from_parts(elements, phase_of::<T>(start), range.end - range.start)
+        let window = Window {
+            start: self.head,
+            len: self.len,
+        };
+        let part = touched_part::<T>(self.elements.len(), window, range.start, range.end);
+        let elements = self.elements_part_mut(part.first, part.end);
+        BitSliceMut::from_parts(elements, part.head, part.len)
     }
 
     /// The bit at an index for writing, as `get_mut(index)` gives it. Condition: the index is below

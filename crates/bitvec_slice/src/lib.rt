@@ -44,7 +44,7 @@ pub use lent_indices::LentIndex;
 pub use sealed::Sealed;
 pub use showing::{Shows, View};
 #[doc(hidden)]
-pub use touching::{phase_of, touched_range};
+pub use touching::{TouchedPart, phase_of, touched_part};
 pub use view::BitSlice;
 pub use view_mut::BitSliceMut;
 #[doc(hidden)]

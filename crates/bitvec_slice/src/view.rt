@@ -4,7 +4,7 @@ ghost use Rattle.bitvec_base.specs.Window.{max_bits};
 
 use crate::BitDomain;
 use crate::bit_domain::bit_domain_of;
-use crate::touching::{phase_of, touched_range};
+use crate::touching::touched_part;
 use bitvec_base::{BitOrder, MAX_BITS, Window};
 use bitvec_domain::{Domain, domain_of};
 use bitvec_store::BitStore;
@@ -169,10 +169,13 @@ impl<'a, T: BitStore, O: BitOrder> BitSlice<'a, T, O> {
         requires { HasRange range (seen self).window.len }
         ensures { IsRangeOf T.BITS (seen self.entry) range.start range.end (seen result) }
     {
-        let start = self.head + range.start;
-        let touched = touched_range::<T>(start, self.head + range.end);
-        let elements = &self.elements[touched.start..touched.end];
-        BitSlice::from_parts(elements, phase_of::<T>(start), range.end - range.start)
+        let window = Window {
+            start: self.head,
+            len: self.len,
+        };
+        let part = touched_part::<T>(self.elements.len(), window, range.start, range.end);
+        let elements = &self.elements[part.first..part.end];
+        BitSlice::from_parts(elements, part.head, part.len)
     }
 
     /// Where the view stands among the elements that it touches. `bitvec` has no such call.

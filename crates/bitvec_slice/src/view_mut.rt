@@ -3,7 +3,7 @@ ghost use Rattle.std.specs.Prelude.{◌≡◌, ◌+◌, ◌*◌, ◌≤◌, ◌=
 ghost use Rattle.bitvec_base.specs.Window.{max_bits};
 
 use crate::bit_domain::bit_domain_mut_of;
-use crate::touching::{phase_of, touched_range};
+use crate::touching::touched_part;
 use crate::{BitDomain, BitDomainMut, BitSlice, Sealed};
 use bitvec_base::{BitOrder, Window};
 use bitvec_domain::{Domain, DomainMut, domain_mut_of};
@@ -36,9 +36,9 @@ use std::ops::Range;
 /// [`crate::Sealed`], which only the library's crates can make.
 #[derive(Drop)]
 pub struct BitSliceMut<'a, T: BitStore, O: BitOrder> {
-    elements: &'a mut [T],
-    head: usize,
-    len: usize,
+    pub(crate) elements: &'a mut [T],
+    pub(crate) head: usize,
+    pub(crate) len: usize,
     mark: PhantomData<(O, &'a mut T)>,
     ghost inside: { head + len ≤ T.BITS * length elements.now },
     ghost bounded: { T.BITS * length elements.now ≤ max_bits },
@@ -203,13 +203,13 @@ impl<'a, T: BitStore, O: BitOrder> BitSliceMut<'a, T, O> {
         let BitSliceMut {
             elements,
             head,
-            len: _,
+            len,
             mark: _,
         } = self;
-        let start = head + range.start;
-        let touched = touched_range::<T>(start, head + range.end);
-        let elements = &mut elements[touched.start..touched.end];
-        BitSliceMut::from_parts(elements, phase_of::<T>(start), range.end - range.start)
+        let window = Window { start: head, len };
+        let part = touched_part::<T>(elements.len(), window, range.start, range.end);
+        let elements = &mut elements[part.first..part.end];
+        BitSliceMut::from_parts(elements, part.head, part.len)
     }
 
     /// Where the view stands among the elements that it touches. `bitvec` has no such call.

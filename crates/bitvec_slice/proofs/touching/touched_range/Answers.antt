@@ -2,8 +2,8 @@ use Rattle.std.specs.Prelude.{ℕ, ◌<◌, ◌≤◌}
 use Rattle.std.proofs.Common.{arith, rules}
 use Rattle.std.proofs.lemmas.Grind.{div_ceil_times}
 use Rattle.bitvec_store.specs.WidthLaws.{width_some}
-use Rattle.bitvec_slice.specs.Touched.{Touches, end_touched}
-use Rattle.bitvec_slice.specs.TouchedLaws.{touches}
+use Rattle.bitvec_slice.specs.Touched.{end_touched}
+use Rattle.bitvec_slice.specs.TouchedLaws.{Touches, touches}
 use Rattle.bitvec_slice.proofs.touching.touched_range.Goals as goal
 
 -- the elements up to the last that is touched have the places
