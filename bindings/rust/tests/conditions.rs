@@ -397,6 +397,7 @@ fn views(seen: &mut Seen) {
         xor_within(|bytes| view(bytes).xor_within(0..9, 40));
         and_not_within(|bytes| view(bytes).and_not_within(0..9, 40));
         count_ones_before(|bytes| view(bytes).count_ones_before(49));
+        count_zeros_before(|bytes| view(bytes).count_zeros_before(49));
         copy_from_bitslice(|bytes| view(bytes).copy_from_bitslice(other));
         copy_from_slice(|bytes| view(bytes).copy_from_slice(other));
         clone_from_bitslice(|bytes| view(bytes).clone_from_bitslice(other));

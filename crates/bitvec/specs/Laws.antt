@@ -42,7 +42,7 @@ use Rattle.bitvec.specs.SetLaws.{cleared-stays, cleared-was, set-stays, set-was}
 use Rattle.bitvec.specs.WindowsLaws.{windows-determine}
 use Rattle.bitvec.specs.FlagLaws.{flag-back, flag-below, flag-fits, flag-same, flag-told}
 use Rattle.bitvec.specs.PartsLaws.{get-parts, length-parts}
-use Rattle.bitvec.specs.PlacedLaws.{length-places, length-zero_places, nth-below, nth-bit, nth-count, nth-place, nth-rank, places-and, places-and_not, places-append, places-ascend, places-below, places-bit, places-cleared, places-cons, places-count, places-flipped, places-have, places-nil, places-none, places-ones, places-or, places-ordered, places-set, places-xor, places-zeros}
+use Rattle.bitvec.specs.PlacedLaws.{length-places, length-zero_places, nth-below, nth-bit, nth-count, nth-place, nth-rank, nth_zero-count, nth_zero-place, places-and, places-and_not, places-append, places-ascend, places-below, places-bit, places-cleared, places-cons, places-count, places-flipped, places-have, places-nil, places-none, places-ones, places-or, places-ordered, places-set, places-xor, places-zeros, zero_places-count}
 use Rattle.bitvec.specs.RowsLaws.{remainder-whole, row-first, row-kept, row-rest}
 use Rattle.bitvec.specs.SeamlessLaws.{loaded-seamless, number-seamless, numbered-put, numbered-seamless, stored-seamless}
 use Rattle.bitvec_segments.specs.NumberLaws.{segment-number, segment-told, segment_number-below}
@@ -66,7 +66,7 @@ pub ruleset found = (lengths, first_place-below, first_place-bit, first_place-be
 
 -- This set closes goals about the places of the ones (`places_of`): below the length, ascending, each a 1, how many, which one comes
 -- `k`-th, and the places after a `set` and in two lists combined.
-pub ruleset placed = (lengths, places-below, places-bit, places-ordered, places-ascend, length-places, length-zero_places, places-none, places-have, places-count, nth-below, nth-bit, nth-count, nth-rank, nth-place, places-nil, places-cons, places-append, places-flipped, places-zeros, places-ones, places-set, places-cleared, places-and, places-and_not, places-or, places-xor)
+pub ruleset placed = (lengths, places-below, places-bit, places-ordered, places-ascend, length-places, length-zero_places, places-none, places-have, places-count, nth-below, nth-bit, nth-count, nth-rank, nth-place, zero_places-count, nth_zero-count, nth_zero-place, places-nil, places-cons, places-append, places-flipped, places-zeros, places-ones, places-set, places-cleared, places-and, places-and_not, places-or, places-xor)
 
 -- This set closes goals about a truth value as a number: a number below 2 is one, and back.
 pub ruleset flags = (flag-below, flag-fits, flag-back, flag-told, flag-same)

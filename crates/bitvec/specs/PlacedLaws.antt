@@ -10,7 +10,7 @@ use Rattle.std.specs.Set.{sorted_merge}
 use Rattle.std.specs.declared.cmp.Ordering.TheVariants.{Less, Equal, Greater}
 use Rattle.std.proofs.Common.{◌∙◌, ap, arith, sym, subst, ⊎_elim}
 use Rattle.std.proofs.lemmas.Bool.{cases_eq, eq-eqb, le-ltb, lt-ltb, ne_eqb}
-use Rattle.std.proofs.lemmas.List.{get_or-map, get_or-set_other, get_or-set_same, length-map, length-set}
+use Rattle.std.proofs.lemmas.List.{get_or-map, get_or-set_other, get_or-set_same, length-map, length-set, take-map}
 use Rattle.std.proofs.lemmas.List.Sums.{sum_by-cons}
 use Rattle.bitvec_base.specs.Counts.{ones_of, zeros_of}
 use Rattle.bitvec_base.specs.CountedLaws.{ones-flipped}
@@ -321,6 +321,24 @@ ones-nth from (false ∷ bits) (suc i) is =
 -- A bit that is 1 comes as many places behind the first 1 as there are ones before it.
 pub nth-place : (bits : List Bool) (i : ℕ) → slice_index_or bits i false ≡ true → slice_get (places_of true bits) (ones_of (take i bits)) ≡ Some i
 nth-place bits i is = ap (λ (l : List ℕ). slice_get l (ones_of (take i bits))) (ones-are bits) ∙ ones-nth 0 bits i is ∙ ap Some (let same : 0 + i ≡ i = omega arith in same)
+
+zeros-take : (bits : List Bool) (k : ℕ) → ones_of (take k (map not bits)) ≡ zeros_of (take k bits)
+zeros-take bits k = ap (λ (l : List Bool). ones_of l) (take-map not k bits) ∙ ones-flipped (take k bits)
+
+-- Among the first `k` bits there are as many zeros as places of zeros are below `k`.
+pub zero_places-count : (bits : List Bool) (k : ℕ) → zeros_of (take k bits) ≡ count_by (λ place. nat_lt place k) (places_of false bits)
+zero_places-count bits k = sym (zeros-take bits k) ∙ places-count (map not bits) k ∙ ap (count_by (λ (place : ℕ). nat_lt place k)) (places-flipped bits)
+
+-- Before the 0 that comes `k`-th there are `k` zeros.
+pub nth_zero-count : (bits : List Bool) (k i : ℕ) → slice_get (places_of false bits) k ≡ Some i → zeros_of (take i bits) ≡ k
+nth_zero-count bits k i is = sym (zeros-take bits i) ∙ nth-count (map not bits) k i (ap (λ (l : List ℕ). slice_get l k) (places-flipped bits) ∙ is)
+
+-- A bit that is 0 comes as many places behind the first 0 as there are zeros before it.
+pub nth_zero-place : (bits : List Bool) (i : ℕ) → i < length bits → slice_index_or bits i false ≡ false → slice_get (places_of false bits) (zeros_of (take i bits)) ≡ Some i
+nth_zero-place bits i below is =
+    ap (λ (l : List ℕ). slice_get l (zeros_of (take i bits))) (sym (places-flipped bits))
+    ∙ ap (slice_get (places_of true (map not bits))) (sym (zeros-take bits i))
+    ∙ nth-place (map not bits) i (get_or-map not bits i false false below ∙ ap not is)
 
 -- ---- after edits of the list
 

@@ -1,6 +1,6 @@
 //! What a caller knows of a set of numbers, each the index of a bit that is 1: put in, joined with another, looked up by rank,
 //! walked, and kept in a range of an array.
-ghost use Rattle.std.specs.Prelude.{◌≡◌, ◌-◌, ◌<◌, ◌≤◌, ◌==◌, IfSome, count_by, filter, length, nat_lt, not, slice_index, slice_index_or, true, false};
+ghost use Rattle.std.specs.Prelude.{◌≡◌, ◌-◌, ◌<◌, ◌≤◌, ◌==◌, IfSome, Some, count_by, filter, length, nat_lt, not, slice_get, slice_index, slice_index_or, take, true, false};
 ghost use Rattle.std.specs.BTreeSet.{insert_key};
 ghost use Rattle.std.specs.List.{list_any};
 ghost use Rattle.std.specs.Ordering.{nat_cmp};
@@ -54,6 +54,26 @@ pub fn number_at(numbers: BitSlice<'_, u64, Lsb0>, rank: usize) -> Option<usize>
     ensures rank { IfSome result (λ number. count_by (λ other. nat_lt other number) (places_of true (seen numbers.entry).bits) ≡ rank) }
 {
     numbers.nth_one(rank)
+}
+
+/// The number that isn't in the set and has so many such numbers below it, if there is one.
+#[tactic(auto, using(bitvec::specs::Laws::placed))]
+pub fn missing_at(numbers: BitSlice<'_, u64, Lsb0>, rank: usize) -> Option<usize>
+    ensures below { IfSome result (λ number. number < (seen numbers.entry).window.len) }
+    ensures missing { IfSome result (λ number. slice_index_or (seen numbers.entry).bits number false ≡ false) }
+    ensures rank { IfSome result (λ number. count_by not (take number (seen numbers.entry).bits) ≡ rank) }
+{
+    numbers.nth_zero(rank)
+}
+
+/// The rank of a number that isn't in a set among those that aren't: [`missing_at`] finds it there. Condition: it is below the length.
+#[tactic(auto, using(bitvec::specs::Laws::placed))]
+pub fn rank_of_missing(numbers: BitSlice<'_, u64, Lsb0>, number: usize) -> usize
+    requires below { number < (seen numbers).window.len }
+    requires missing { slice_index_or (seen numbers).bits number false ≡ false }
+    ensures { slice_get (places_of false (seen numbers.entry).bits) result ≡ Some number }
+{
+    numbers.count_zeros_before(number)
 }
 
 /// The first number of a set whose weight is 0. Condition: there are as many weights as bits.

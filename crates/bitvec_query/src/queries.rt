@@ -6,7 +6,7 @@ ghost use Rattle.std.specs.Ordering.{bool_cmp};
 ghost use Rattle.bitvec_base.specs.Lists.{first_place, is_prefix, is_suffix, last_place, places_of, same_bits, stands_in};
 ghost use Rattle.bitvec_slice.specs.Views.{seen};
 
-use crate::places::IterOnes;
+use crate::places::{IterOnes, IterZeros};
 use crate::runs::{before_first, behind_last};
 use bitvec_base::BitOrder;
 use bitvec_elements::{
@@ -60,12 +60,30 @@ pub trait BitQueries<T: BitStore, O: SliceOrder>: View<T, O> {
         self.as_bitslice().into_part(0..index).count_ones()
     }
 
+    /// How many of the bits before an index are 0. Condition: the index is at most the length. `bitvec` has no such call; it is
+    /// that of `view[..index].count_zeros()`.
+    #[inline(always)]
+    final fn count_zeros_before(&self, index: usize) -> usize
+        requires { index ≤ (Self.shows self.now).window.len }
+        ensures { result ≡ count_by not (take index (Self.shows self.now).bits) }
+    {
+        self.as_bitslice().into_part(0..index).count_zeros()
+    }
+
     /// The index of the bit that is 1 and has `n` such bits before it, if there is one. `bitvec` has no such call; it is
     /// that of `view.iter_ones().nth(n)`, and takes as long.
     final fn nth_one(&self, n: usize) -> Option<usize>
         ensures { result ≡ slice_get (places_of true (Self.shows self.now).bits) n }
     {
         IterOnes::<T, O>::new(self.as_bitslice()).nth(n)
+    }
+
+    /// The index of the bit that is 0 and has `n` such bits before it, if there is one. `bitvec` has no such call; it is
+    /// that of `view.iter_zeros().nth(n)`, and takes as long.
+    final fn nth_zero(&self, n: usize) -> Option<usize>
+        ensures { result ≡ slice_get (places_of false (Self.shows self.now).bits) n }
+    {
+        IterZeros::<T, O>::new(self.as_bitslice()).nth(n)
     }
 
     /// The index of the first bit that is 1, if there is one.

@@ -135,6 +135,7 @@ fn bits_are_found_and_runs_are_counted(rt: HostRuntime) {
             ]
     );
     assert!(rt; (view.count_ones_before(3), view.nth_one(2)) == (2, Some(3)));
+    assert!(rt; (view.count_zeros_before(4), view.nth_zero(1)) == (1, Some(4)));
     let answers = [answers(view), answers(BitSlice::empty())];
     assert!(rt;
         answers
