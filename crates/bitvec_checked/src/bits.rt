@@ -4,8 +4,9 @@ ghost use Rattle.bitvec_checked.specs.Calls.{Asks, EditsBy};
 ghost use Rattle.bitvec_checked.specs.Replies.{bit_of};
 ghost use Rattle.bitvec_checked.specs.Statuses.{bits_from};
 
-use crate::status::{index_status, indices_status, or_next, window_status};
+use crate::status::{op_status, or_next, window_status};
 use bitvec_base::Window;
+use bitvec_commands::Op;
 use bitvec_domain::{bit_in, replace_in, set_in, swap_in};
 use bitvec_store::BitStore;
 
@@ -23,7 +24,7 @@ pub fn get<T: BitStore>(
     let window = Window { start, len };
     let status = or_next(
         window_status(order, elements, window),
-        index_status(index, len),
+        op_status(Op::Get(index), len),
     );
     tested!(status, *bit, order, bit_in::<T>(elements, window, index))
 }
@@ -42,7 +43,7 @@ pub fn set<T: BitStore>(
     let window = Window { start, len };
     let status = or_next(
         window_status(order, elements, window),
-        index_status(index, len),
+        op_status(Op::Set(index, bit), len),
     );
     tested!(status, order, set_in::<T>(elements, window, index, bit))
 }
@@ -63,7 +64,7 @@ pub fn replace<T: BitStore>(
     let window = Window { start, len };
     let status = or_next(
         window_status(order, elements, window),
-        index_status(index, len),
+        op_status(Op::Replace(index, bit), len),
     );
     tested!(
         status,
@@ -87,7 +88,7 @@ pub fn swap_bits<T: BitStore>(
     let window = Window { start, len };
     let status = or_next(
         window_status(order, elements, window),
-        indices_status(first, second, len),
+        op_status(Op::Swap(first, second), len),
     );
     tested!(status, order, swap_in::<T>(elements, window, first, second))
 }

@@ -3,8 +3,9 @@ ghost use Rattle.bitvec_commands.specs.declared.command.Op.TheVariants.{CopyWith
 ghost use Rattle.bitvec_checked.specs.Calls.{EditsBy};
 ghost use Rattle.bitvec_checked.specs.Statuses.{bits_from};
 
-use crate::status::{amount_status, or_next, ranges_status, window_status};
+use crate::status::{op_status, or_next, window_status};
 use bitvec_base::Window;
+use bitvec_commands::Op;
 use bitvec_store::BitStore;
 use bitvec_within::{
     copy_within_in, reverse_in, rotate_left_in, rotate_right_in, shift_end_in, shift_start_in,
@@ -32,7 +33,7 @@ pub fn shift_start<T: BitStore>(
     let window = Window { start, len };
     let status = or_next(
         window_status(order, elements, window),
-        amount_status(by, len),
+        op_status(Op::ShiftStart(by), len),
     );
     tested!(status, order, shift_start_in::<T>(elements, window, by))
 }
@@ -50,7 +51,7 @@ pub fn shift_end<T: BitStore>(
     let window = Window { start, len };
     let status = or_next(
         window_status(order, elements, window),
-        amount_status(by, len),
+        op_status(Op::ShiftEnd(by), len),
     );
     tested!(status, order, shift_end_in::<T>(elements, window, by))
 }
@@ -68,7 +69,7 @@ pub fn rotate_left<T: BitStore>(
     let window = Window { start, len };
     let status = or_next(
         window_status(order, elements, window),
-        amount_status(by, len),
+        op_status(Op::RotateLeft(by), len),
     );
     tested!(status, order, rotate_left_in::<T>(elements, window, by))
 }
@@ -86,7 +87,7 @@ pub fn rotate_right<T: BitStore>(
     let window = Window { start, len };
     let status = or_next(
         window_status(order, elements, window),
-        amount_status(by, len),
+        op_status(Op::RotateRight(by), len),
     );
     tested!(status, order, rotate_right_in::<T>(elements, window, by))
 }
@@ -106,7 +107,7 @@ pub fn copy_within<T: BitStore>(
     let window = Window { start, len };
     let status = or_next(
         window_status(order, elements, window),
-        ranges_status(from, to, dest, len),
+        op_status(Op::CopyWithin(from, to, dest), len),
     );
     tested!(
         status,

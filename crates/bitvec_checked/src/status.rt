@@ -1,16 +1,16 @@
 //! Whether a call is carried out, and if not, why: its status, a number.
 ghost use Rattle.std.specs.Prelude.{◌≡◌, ◌*◌, ◌<◌, ◌≤◌, ◌↔◌, IsTrue, [], false, length, map, replicate};
 ghost use Rattle.std.specs.Int.{div_ceil};
-ghost use Rattle.bitvec_base.specs.Lists.{FitsWithin};
 ghost use Rattle.bitvec_base.specs.Memory.{FitsMaxBits, HasWindow};
-ghost use Rattle.bitvec_commands.specs.Commands.{amount_refusal, index_refusal, op_refusal, right_refusal};
+ghost use Rattle.bitvec_commands.specs.Commands.{op_refusal, right_refusal};
+ghost use Rattle.bitvec_commands.specs.Groups.{FitsList};
 ghost use Rattle.bitvec_commands.specs.Rows.{unless};
-ghost use Rattle.bitvec_commands.specs.declared.command.Op.TheVariants.{CopyFrom, CopyWithin, Swap};
+ghost use Rattle.bitvec_commands.specs.declared.command.Op.TheVariants.{CopyFrom};
 ghost use Rattle.bitvec_checked.specs.Statuses.{end_status, memories_status, or_next, refusal_status, status_beside, step_status, steps_status, width_status, window_status};
 
 use bitvec_base::Window;
 use bitvec_cells::{Shared, fits_max_bits};
-use bitvec_commands::Refusal;
+use bitvec_commands::{Op, Refusal, command_refusal};
 use bitvec_store::BitStore;
 
 /// The order that begins with the least significant bit of an element.
@@ -136,44 +136,16 @@ pub(crate) fn equal_windows_status<T: BitStore>(
     unless(right_window.len == window.len, Refusal::Length)
 }
 
-/// Whether an index is below the length of a window.
+/// Whether a command with no right window is carried out on `len` bits, and if not, why.
 #[inline(always)]
-pub(crate) fn index_status(index: usize, len: usize) -> u32
-    ensures status { result ≡ refusal_status (index_refusal len index) }
-    ensures below { result ≡ 0 → index < len }
+pub(crate) fn op_status(op: Op, len: usize) -> u32
+    ensures status { result ≡ refusal_status (op_refusal [] len op) }
+    ensures fits { result ≡ 0 → FitsList len op }
 {
-    unless(index < len, Refusal::Index)
-}
-
-/// Whether two indices are.
-#[inline(always)]
-pub(crate) fn indices_status(first: usize, second: usize, len: usize) -> u32
-    ensures status { result ≡ refusal_status (op_refusal [] len (Swap first second)) }
-    ensures first { result ≡ 0 → first < len }
-    ensures second { result ≡ 0 → second < len }
-{
-    unless(first < len && second < len, Refusal::Index)
-}
-
-/// Whether a window can be shifted or rotated by so much.
-#[inline(always)]
-pub(crate) fn amount_status(by: usize, len: usize) -> u32
-    ensures status { result ≡ refusal_status (amount_refusal len by) }
-    ensures most { result ≡ 0 → by ≤ len }
-{
-    unless(by <= len, Refusal::Amount)
-}
-
-/// Whether the bits from `from` up to `to` of a window can be copied to those from `dest` on.
-#[inline(always)]
-pub(crate) fn ranges_status(from: usize, to: usize, dest: usize, len: usize) -> u32
-    ensures status { result ≡ refusal_status (op_refusal [] len (CopyWithin from to dest)) }
-    ensures fits { result ≡ 0 → FitsWithin from to dest len }
-{
-    if from > to || to > len {
-        return Refusal::Source as u32;
+    match command_refusal(op, len, 0) {
+        None => DONE,
+        Some(refusal) => refusal as u32,
     }
-    unless(dest <= len - (to - from), Refusal::Dest)
 }
 
 /// Whether a walk of a window may begin at an index, which may be its end.

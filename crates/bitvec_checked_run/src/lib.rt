@@ -7,6 +7,7 @@ mod replies;
 mod running;
 mod steps;
 
+pub use operations::OPERATIONS;
 pub use replies::RawReply;
 pub use running::{OP, ROOM, run};
 pub use steps::RawStep;

@@ -1,6 +1,5 @@
 //! The operations of a run's steps, by their numbers.
-ghost use Rattle.std.specs.Prelude.{◌≡◌, ◌+◌, ◌*◌, ◌^◌, ◌<◌, ◌≤◌};
-ghost use Rattle.bitvec_run.specs.declared.field_step.FieldOp.TheVariants.{Plain};
+ghost use Rattle.std.specs.Prelude.{◌≡◌, ◌+◌, ◌*◌, ◌^◌, ◌<◌};
 ghost use Rattle.bitvec_checked_run.specs.Steps.{operation_of};
 
 use crate::steps::RawStep;
@@ -78,25 +77,10 @@ pub const STORE_BE: u32 = 32;
 pub const OPERATIONS: u32 = 33;
 
 /// The operation of a step. Condition: there is one of its number.
+#[tactic(auto, unfolding(crate::specs::Steps::operation_of, crate::specs::Steps::operations_of))]
 pub(crate) fn operation(step: RawStep) -> FieldOp
     requires { step.op < 33 }
     ensures { result ≡ operation_of step }
-{
-    if step.op <= COPY_WITHIN {
-        FieldOp::Plain(edit(step))
-    } else if step.op <= CONTAINS {
-        FieldOp::Plain(beside(step))
-    } else if step.op <= ALL {
-        FieldOp::Plain(question(step))
-    } else {
-        transfer(step)
-    }
-}
-
-/// A command that names bits or an amount of its list.
-fn edit(step: RawStep) -> Op
-    requires { step.op ≤ 11 }
-    ensures { Plain result ≡ operation_of step }
 {
     let RawStep {
         first,
@@ -105,7 +89,11 @@ fn edit(step: RawStep) -> Op
         ..
     } = step;
     let bit = step.bit != 0;
-    match step.op {
+    let window = Window {
+        start: first,
+        len: second,
+    };
+    FieldOp::Plain(match step.op {
         GET => Op::Get(first),
         SET => Op::Set(first, bit),
         REPLACE => Op::Replace(first, bit),
@@ -118,21 +106,6 @@ fn edit(step: RawStep) -> Op
         ROTATE_LEFT => Op::RotateLeft(first),
         ROTATE_RIGHT => Op::RotateRight(first),
         COPY_WITHIN => Op::CopyWithin(first, second, third),
-        _ => unreachable!(),
-    }
-}
-
-/// A command with a right window.
-fn beside(step: RawStep) -> Op
-    requires first { 12 ≤ step.op }
-    requires last { step.op ≤ 20 }
-    ensures { Plain result ≡ operation_of step }
-{
-    let window = Window {
-        start: step.first,
-        len: step.second,
-    };
-    match step.op {
         COPY => Op::CopyFrom(window),
         AND => Op::And(window),
         OR => Op::Or(window),
@@ -142,17 +115,6 @@ fn beside(step: RawStep) -> Op
         STARTS_WITH => Op::StartsWith(window),
         ENDS_WITH => Op::EndsWith(window),
         CONTAINS => Op::Contains(window),
-        _ => unreachable!(),
-    }
-}
-
-/// A question to all bits.
-fn question(step: RawStep) -> Op
-    requires first { 21 ≤ step.op }
-    requires last { step.op ≤ 28 }
-    ensures { Plain result ≡ operation_of step }
-{
-    match step.op {
         COUNT_ONES => Op::CountOnes,
         COUNT_ZEROS => Op::CountZeros,
         FIRST_ONE => Op::FirstOne,
@@ -161,24 +123,12 @@ fn question(step: RawStep) -> Op
         LAST_ZERO => Op::LastZero,
         ANY => Op::Any,
         ALL => Op::All,
+        LOAD_LE => return FieldOp::LoadLe,
+        LOAD_BE => return FieldOp::LoadBe,
+        STORE_LE => return FieldOp::StoreLe(joined(first, second)),
+        STORE_BE => return FieldOp::StoreBe(joined(first, second)),
         _ => unreachable!(),
-    }
-}
-
-/// A load or a store of a number.
-fn transfer(step: RawStep) -> FieldOp
-    requires first { 29 ≤ step.op }
-    requires last { step.op ≤ 32 }
-    ensures { result ≡ operation_of step }
-{
-    let number = joined(step.first, step.second);
-    match step.op {
-        LOAD_LE => FieldOp::LoadLe,
-        LOAD_BE => FieldOp::LoadBe,
-        STORE_LE => FieldOp::StoreLe(number),
-        STORE_BE => FieldOp::StoreBe(number),
-        _ => unreachable!(),
-    }
+    })
 }
 
 /// The number of two halves.

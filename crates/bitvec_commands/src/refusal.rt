@@ -8,6 +8,7 @@ use bitvec_base::Window;
 
 /// The first condition of a command that fails, if one does, on a list of `len` bits beside a right
 /// list of `source_len`.
+#[inline(always)]
 pub fn command_refusal(op: Op, len: usize, source_len: usize) -> Option<Refusal>
     ensures { (right : List Bool) → length right ≡ source_len → result ≡ op_refusal right len op }
 {
@@ -43,6 +44,7 @@ pub fn command_refusal(op: Op, len: usize, source_len: usize) -> Option<Refusal>
     }
 }
 
+#[inline(always)]
 fn unless(test: bool, refusal: Refusal) -> Option<Refusal>
     ensures { result ≡ unless test refusal }
 {

@@ -1,6 +1,6 @@
 //! A run: what each step replies, and what its window holds afterwards.
 use bitvec_checked::{DONE, LSB0, MSB0};
-use bitvec_checked_run::{OP, ROOM, RawReply, RawStep, run};
+use bitvec_checked_run::{OP, OPERATIONS, ROOM, RawReply, RawStep, run};
 
 fn step(op: u32, to: usize, first: usize, second: usize) -> RawStep {
     RawStep {
@@ -58,7 +58,7 @@ fn steps_without_operation_or_room_are_refused(rt: HostRuntime) {
             3,
             18,
             &[],
-            &[step(33, 0, 0, 0)],
+            &[step(OPERATIONS, 0, 0, 0)],
             &mut [NOTHING],
         ),
         run(MSB0, &mut bytes, 3, 18, &[], &[step(0, 18, 0, 0)], &mut []),
