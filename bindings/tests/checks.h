@@ -123,7 +123,7 @@ static fb_reply NAME(wanted_reply)(struct NAME(memory) left, struct NAME(memory)
 /* One command on a window, as a function of its own. */
 static void NAME(check_command)(struct NAME(memory) left, struct NAME(memory) right, uint32_t op) {
     bool takes_right = FB_COPY <= op && op <= FB_CONTAINS;
-    struct call at = NAME(random_call)(left, right, FB_LOAD_LE <= op ? 66 : MOST_BITS);
+    struct call at = NAME(random_call)(left, right, is_number(op) ? 66 : MOST_BITS);
     fb_step step = random_arguments(op, at.len <= left.count * WIDTH ? at.len : 0, right.count * WIDTH);
     if (random_below(60) == 0)
         at.left_count = NAME(too_many)();

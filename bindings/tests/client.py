@@ -200,7 +200,7 @@ def check_run(left, right):
     replies = left.view().run(right.view(), steps)
     expect([Status(reply.status).name for reply in replies] == ["DONE", "INDEX", "DONE", "RIGHT"], "run")
     expect(isinstance(replies[2], Reply) and replies[2].low == length - length // 2, "a reply")
-    expect(status_of(left.view().run, right.view(), [Step(33, 0, 0)])[0] == "FB_OP", "a run of no command")
+    expect(status_of(left.view().run, right.view(), [Step(len(Op), 0, 0)])[0] == "FB_OP", "a run of no command")
 
 
 def main():

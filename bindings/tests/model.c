@@ -8,6 +8,10 @@ void cut(struct list *part, const struct list *list, size_t from, size_t to) {
     memcpy(part->bits, list->bits + from, part->len);
 }
 
+bool is_number(uint32_t op) {
+    return op == FB_LOAD_LE || op == FB_LOAD_BE || op == FB_STORE_LE || op == FB_STORE_BE;
+}
+
 uint32_t kind_of(uint32_t op) {
     switch (op) {
     case FB_GET:

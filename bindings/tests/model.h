@@ -24,6 +24,9 @@ struct place {
 /* Whether `len` bits from `start` on are among so many. */
 bool lies_in(size_t start, size_t len, size_t bits);
 
+/* Whether a command loads or stores a number. */
+bool is_number(uint32_t op);
+
 /* The kind of a command's answer, where it isn't refused. */
 uint32_t kind_of(uint32_t op);
 

@@ -70,7 +70,7 @@ static void random_range(fb_step *step, size_t len, size_t most) {
 fb_step random_step(size_t len, size_t right_bits) {
     uint32_t op = (uint32_t)random_below(COMMANDS);
     fb_step range;
-    random_range(&range, len, FB_LOAD_LE <= op ? 130 : random_below(4) == 0 ? len : 300);
+    random_range(&range, len, is_number(op) ? 130 : random_below(4) == 0 ? len : 300);
     fb_step step = random_arguments(op, range.from <= range.to ? range.to - range.from : 0, right_bits);
     step.from = range.from;
     step.to = range.to;
