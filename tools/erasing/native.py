@@ -16,6 +16,12 @@ BY_HAND = [
     ("owned/equality.rs", "PartialEq"),
     ("owned/array/equality.rs", "PartialEq"),
 ]
+# The walks over bits that have more methods by elements: the file, the walk, its item, what it holds, and an item of a bit.
+BY_ELEMENTS = [
+    ("slice/iter.rs", "Iter", "BitRef<'a, T, O>", "", "BitRef::new(bit)"),
+    ("slice/bit_iters.rs", "BitRefIter", "&'a bool", "bits.", "if bit { &true } else { &false }"),
+    ("slice/bit_iters.rs", "BitValIter", "bool", "bits.", "bit"),
+]
 # Texts of a file, and what stands for each.
 EDITS = [
     ("split/splitting.rs", "    pub(in crate::proved::split) rest:", "    pub(crate) rest:"),
@@ -47,6 +53,11 @@ def adapt(source):
     edit(proved / "owned/array.rs", r"\n *if [^\n]*\n *crate::conditions::fails\(\"new\"[^\n]*\n *\}", lambda _: "")
     for name, old, new in EDITS:
         edit(proved / name, re.escape(old), lambda _: new)
+    for name, walk, item, held, made in BY_ELEMENTS:
+        form = f"{item}, [{held}view], [{held}indices], |bit| {made});\n"
+        for way, trait, nth in ("forward", "Iterator", "nth"), ("backward", "DoubleEndedIterator", "nth_back"):
+            added = f"\n    crate::by_elements::{way}!({form}    crate::by_elements::passing!({nth}, {form}"
+            edit(proved / name, rf" {trait}\s+for {walk}<'a, T, O> \{{\n(    type Item = [^;]*;\n)?", lambda it: it[0] + added)
 
 
 def remove(path, trait):

@@ -27,7 +27,7 @@ LEFT_OUT = {
 # Files that stand in bindings/rust/tests in place of the erased ones.
 BY_HAND = {("bitvec_test_support", "refusing"): "refusing.rs"}
 # Tests of the package by hand.
-BESIDE = ("native", "pieces", "closures", "conditions", "laws", "memory", "names", "random", "rows", "walks", "golden", "readme")
+BESIDE = ("native", "by_elements", "pieces", "closures", "conditions", "laws", "memory", "names", "random", "rows", "walks", "golden", "readme")
 MACROS = erase.MACROS + ("vec", "format")
 HASHER = "std::collections::hash_map::DefaultHasher"
 

@@ -1,5 +1,6 @@
 //! Iterators over what owns its bits, and what is made of iterators' items.
 
+use crate::by_elements;
 use crate::prelude::*;
 use crate::walks::walks;
 use core::fmt;
@@ -25,7 +26,11 @@ macro_rules! walked {
             }
         }
 
-        walks!([$($generic)*] Bools<$kind>, bool, left, |walk, index| walk.bits.as_bitslice()[index]);
+        walks!(
+            [$($generic)*] Bools<$kind>, bool, left, |walk, index| walk.bits.as_bitslice()[index],
+            {by_elements::forward!(bool, [bits.as_bitslice()], [left], |bit| bit);}
+            {by_elements::backward!(bool, [bits.as_bitslice()], [left], |bit| bit);}
+        );
 
         impl<$($generic)*> fmt::Debug for Bools<$kind> {
             fn fmt(&self, f: &mut fmt::Formatter<'_>) -> fmt::Result {

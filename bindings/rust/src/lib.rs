@@ -25,6 +25,7 @@ extern crate alloc;
 pub mod aliased;
 mod arrays;
 pub mod bits;
+mod by_elements;
 mod calls;
 mod comparisons;
 mod conditions;

@@ -7,9 +7,9 @@ use crate::slice::{Cutting, ExactCutting, InChunks, InChunksFromEnd, InExactChun
 use core::iter::FusedIterator;
 use core::ops::Range;
 
-/// What comes from both ends by its number.
+/// What comes from both ends by its number, and more methods of each way, if there are some.
 macro_rules! walks {
-    ([$($generic:tt)*] $kind:ty, $item:ty, $($numbers:ident).+, |$walk:ident, $number:ident| $made:expr) => {
+    ([$($generic:tt)*] $kind:ty, $item:ty, $($numbers:ident).+, |$walk:ident, $number:ident| $made:expr $(, {$($forward:tt)*} {$($backward:tt)*})?) => {
         impl<$($generic)*> Iterator for $kind {
             type Item = $item;
 
@@ -31,6 +31,8 @@ macro_rules! walks {
             fn size_hint(&self) -> (usize, Option<usize>) {
                 self.$($numbers).+.size_hint()
             }
+
+            $($($forward)*)?
         }
 
         impl<$($generic)*> DoubleEndedIterator for $kind {
@@ -47,6 +49,8 @@ macro_rules! walks {
                 let $walk = self;
                 Some($made)
             }
+
+            $($($backward)*)?
         }
 
         impl<$($generic)*> ExactSizeIterator for $kind {}
