@@ -3,6 +3,7 @@ use Rattle.std.specs.Prelude.{◌≡◌, ℕ, ◌+◌, ◌-◌, ◌*◌, ◌/◌
 use Rattle.std.proofs.Common.{arith, sym, ◌∙◌, ap}
 use Rattle.bitvec_base.specs.SliceLaws.{range-rest, range-to_end}
 use Rattle.bitvec_store.specs.Width.{IsWidth}
+use Rattle.bitvec_store.specs.WidthLaws.{width_some}
 use Rattle.bitvec_slice.specs.Seen.{IsRangeOf, Seen, shown}
 use Rattle.bitvec_slice.specs.SeenLaws.{part_view}
 use Rattle.bitvec_slice.specs.Touched.{end_touched, first_touched, touched_elements}
@@ -18,7 +19,7 @@ module _ {T : Type 0} (b : ℕ) (at : ℕ → ℕ → ℕ) (value : T → ℕ) (
       let first : start ≡ start + 0 = omega arith in
       let all : mid ≡ mid - 0 = omega arith in
       let last : (start + mid) / b ≡ end_touched b (start + mid) = omega (arith, ap (λ (r : ℕ). min 1 r) edge) in
-      part_view b at value elements start len inside part 0 mid wide (omega arith) bound (
+      part_view b at value elements start len inside part 0 mid (width_some b wide) (omega arith) bound (
       is ∙ ap (λ (xs : List T). shown b at value xs (start % b) mid) (range-to_end front_of (start / b) (length front_of) (omega arith) ∙ range-rest elements (start / b) ((start + mid) / b))
       ∙ ap (λ (s : ℕ). shown b at value (slice_range elements (first_touched b s) ((start + mid) / b)) (s % b) mid) first
       ∙ ap (λ (e : ℕ). shown b at value (slice_range elements (first_touched b (start + 0)) e) ((start + 0) % b) mid) last
@@ -26,5 +27,5 @@ module _ {T : Type 0} (b : ℕ) (at : ℕ → ℕ → ℕ) (value : T → ℕ) (
 
   pub rest-half : part ≡ shown b at value (take (end_touched b (start + len) - (start + mid) / b) (drop ((start + mid) / b) elements)) 0 (len - mid)
       → IsRangeOf b (shown b at value elements start len) mid len part
-  rest-half is = part_view b at value elements start len inside part mid len wide bound (omega arith) (
+  rest-half is = part_view b at value elements start len inside part mid len (width_some b wide) bound (omega arith) (
       is ∙ ap (λ (s : ℕ). shown b at value (touched_elements b elements (start + mid) (start + len)) s (len - mid)) (sym edge))
