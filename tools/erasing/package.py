@@ -164,6 +164,7 @@ class Package:
         shutil.copy(TOP / "LICENSE", self.out)
         for path in (HAND / "src").glob("*.rs"):
             shutil.copy(path, source)
+        shutil.copytree(HAND / "benches", self.out / "benches")
         (source / "calls.rs").write_text(self.calls.written())
         native.adapt(source)
         (source / "definitions.rs").write_text(self.contracts.written())
