@@ -25,6 +25,8 @@ extern crate alloc;
 pub mod aliased;
 mod arrays;
 pub mod bits;
+#[cfg(feature = "alloc")]
+pub mod boxed;
 mod by_elements;
 mod calls;
 mod comparisons;

@@ -109,6 +109,13 @@ macro_rules! bitvec {
     ($store:ty, $order:ty; $($value:expr),+ $(,)?) => { $crate::vec::BitVec::<$store, $order>::from_bools(&[$($value != 0),+]) };
 }
 
+/// What [`bitvec!`](crate::bitvec) makes, as a [`BitBox`](crate::boxed::BitBox).
+#[cfg(feature = "alloc")]
+#[macro_export]
+macro_rules! bitbox {
+    ($($rest:tt)*) => { $crate::bitvec![$($rest)*].into_boxed_bitslice() };
+}
+
 /// An array of bits, [`BitArray`](crate::array::BitArray), a constant of the fewest elements that have the bits of a list, or so
 /// many times one bit.
 ///

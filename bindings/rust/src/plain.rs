@@ -175,6 +175,17 @@ impl<T: BitStore, O: BitOrder> BitVec<T, O> {
         self.into_vec().into_boxed_slice()
     }
 
+    /// The sequence, without memory that its bits don't need: a [`BitBox`](crate::boxed::BitBox).
+    pub fn into_boxed_bitslice(mut self) -> Self {
+        self.shrink_to_fit();
+        self
+    }
+
+    /// The sequence itself: a call of `bitvec`'s `BitBox`.
+    pub fn into_bitvec(self) -> Self {
+        self
+    }
+
     /// A view of the bits whose memory is never given back.
     pub fn leak(self) -> BitSliceMut<'static, T, O> {
         let window = self.window();

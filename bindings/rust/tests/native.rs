@@ -112,6 +112,11 @@ fn conversions_keep_the_bits() {
     assert!(BitArray::<u8, Msb0, 3>::try_from(bits.as_bitslice()).is_err());
     assert_eq!(BitArray::<u8, Msb0, 1>::try_from(bits.clone()), Err(bits.clone()));
     assert_eq!(BitVec::from(array), bits);
+    let boxed: BitBox<u8, Msb0> = bitbox![u8, Msb0; 0, 1, 1];
+    assert_eq!(boxed.into_bitvec(), bitvec![u8, Msb0; 0, 1, 1]);
+    let mut grown = BitVec::<u8, Msb0>::with_capacity(99);
+    grown.push(true);
+    assert_eq!(grown.into_boxed_bitslice().capacity(), 8);
     assert!(array.into_iter().eq(bits.clone()));
     let numbers: BitVec<u8, Msb0> = [0x12, 0x34].into_iter().collect();
     assert_eq!(numbers, bits);
