@@ -37,6 +37,9 @@ EDITS = [
     ("slice/bit_domain.rs", "pub(in crate::proved::slice) fn bit_domain_mut_of<", "pub(crate) fn bit_domain_mut_of<"),
     ("slice/mod.rs", "\nmod bit_domain;", "\npub(crate) mod bit_domain;"),
     ("slice/split_apart.rs", "    fn into_sides(", "    pub(crate) fn into_sides("),
+    ("edit/edits.rs", "{fill_with_in, for_each_in, ", "{"),
+    ("edit/edits.rs", "fill_with_in::<T, O, F>(self.elements_mut(Sealed), window, f);", "let mut f = f;\n        crate::by_elements::refill::<T, O>(self.elements_mut(Sealed), window, |index, _| f(index));"),
+    ("edit/edits.rs", "for_each_in::<T, O, F>(self.elements_mut(Sealed), window, f);", "crate::by_elements::refill::<T, O>(self.elements_mut(Sealed), window, f);"),
     ("slice/view_mut.rs", "pub(in crate::proved::slice) fn into_elements(", "pub(crate) fn into_elements("),
 ]
 
