@@ -103,8 +103,10 @@ impl<T: BitStore> Held<'_, T> {
     fn refill<O: BitOrder>(&mut self, indices: Range<usize>, from: usize, f: &mut impl FnMut(usize, bool) -> bool) {
         for (index, step) in indices.zip(from..) {
             let bit = O::select_proved::<T>(index, Met);
-            let answer = f(step, self.element.and(bit).to_u128() != 0);
-            self.element = if answer { self.element.or(bit) } else { self.element.and(bit.not()) };
+            let old = self.element.and(bit).to_u128() != 0;
+            if f(step, old) != old {
+                self.element = self.element.xor(bit);
+            }
         }
     }
 }
