@@ -22,6 +22,8 @@ BY_ELEMENTS = [
     ("slice/bit_iters.rs", "BitRefIter", "&'a bool", "bits.", "if bit { &true } else { &false }"),
     ("slice/bit_iters.rs", "BitValIter", "bool", "bits.", "bit"),
 ]
+# Calls that stay out of line: all that is inlined into them would take the registers of a loop around the call.
+OUT_OF_LINE = r"#\[inline\(always\)\](\s+fn (?:and|or|xor|and_not)_within_proved\()"
 # Texts of a file, and what stands for each.
 EDITS = [
     ("split/splitting.rs", "    pub(in crate::proved::split) rest:", "    pub(crate) rest:"),
@@ -37,6 +39,9 @@ EDITS = [
     ("slice/bit_domain.rs", "pub(in crate::proved::slice) fn bit_domain_mut_of<", "pub(crate) fn bit_domain_mut_of<"),
     ("slice/mod.rs", "\nmod bit_domain;", "\npub(crate) mod bit_domain;"),
     ("slice/split_apart.rs", "    fn into_sides(", "    pub(crate) fn into_sides("),
+    ("edit/edits.rs", "{fill_with_in, for_each_in, ", "{"),
+    ("edit/edits.rs", "fill_with_in::<T, O, F>(self.elements_mut(Sealed), window, f);", "let mut f = f;\n        crate::by_elements::refill::<T, O>(self.elements_mut(Sealed), window, |index, _| f(index));"),
+    ("edit/edits.rs", "for_each_in::<T, O, F>(self.elements_mut(Sealed), window, f);", "crate::by_elements::refill::<T, O>(self.elements_mut(Sealed), window, f);"),
     ("slice/view_mut.rs", "pub(in crate::proved::slice) fn into_elements(", "pub(crate) fn into_elements("),
 ]
 
@@ -53,6 +58,7 @@ def adapt(source):
     edit(proved / "owned/array.rs", r"\n *if [^\n]*\n *crate::conditions::fails\(\"new\"[^\n]*\n *\}", lambda _: "")
     for name, old, new in EDITS:
         edit(proved / name, re.escape(old), lambda _: new)
+    edit(proved / "edit/edits.rs", OUT_OF_LINE, lambda it: "#[inline(never)]" + it[1])
     for name, walk, item, held, made in BY_ELEMENTS:
         form = f"{item}, [{held}view], [{held}indices], |bit| {made});\n"
         for way, trait, nth in ("forward", "Iterator", "nth"), ("backward", "DoubleEndedIterator", "nth_back"):

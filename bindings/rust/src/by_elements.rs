@@ -1,7 +1,8 @@
-//! Walks over bits that load each element once.
+//! Walks over bits that load each element once, and edits that store it once.
 
 use crate::conditions::Met;
 use crate::prelude::{BitOrder, BitSlice, BitStore};
+use crate::proved::base::Window;
 use core::ops::Range;
 
 /// Whether an element has its bit at an index.
@@ -88,6 +89,53 @@ pub(crate) fn find<T: BitStore, O: BitOrder>(view: BitSlice<'_, T, O>, range: &m
         }
     }
     None
+}
+
+/// An element that is changed bit by bit. It is stored when this ends, also where a closure panics.
+struct Held<'e, T: BitStore> {
+    place: &'e mut T,
+    element: T,
+}
+
+impl<T: BitStore> Held<'_, T> {
+    /// Makes each of some bits what `f` answers for its index in the window, which `from` is for the first, and the bit.
+    #[inline(always)]
+    fn refill<O: BitOrder>(&mut self, indices: Range<usize>, from: usize, f: &mut impl FnMut(usize, bool) -> bool) {
+        for (index, step) in indices.zip(from..) {
+            let bit = O::select_proved::<T>(index, Met);
+            let old = self.element.and(bit).to_u128() != 0;
+            if f(step, old) != old {
+                self.element = self.element.xor(bit);
+            }
+        }
+    }
+}
+
+impl<T: BitStore> Drop for Held<'_, T> {
+    #[inline]
+    fn drop(&mut self) {
+        *self.place = self.element;
+    }
+}
+
+/// Makes each bit of a window what `f` answers for its index and the bit, in order.
+#[inline]
+pub(crate) fn refill<T: BitStore, O: BitOrder>(elements: &mut [T], window: Window, mut f: impl FnMut(usize, bool) -> bool) {
+    let bits = T::BITS as usize;
+    let mut step = 0;
+    while step < window.len {
+        let place = window.start + step;
+        let indices = place % bits..bits.min(place % bits + (window.len - step));
+        let element = &mut elements[place / bits];
+        let mut held = Held { element: *element, place: element };
+        let count = indices.len();
+        if count == bits {
+            held.refill::<O>(0..bits, step, &mut f);
+        } else {
+            held.refill::<O>(indices, step, &mut f);
+        }
+        step += count;
+    }
 }
 
 /// The methods of `Iterator` that take all bits, or seek one, for a walk that has a view and the range of indices that are left.

@@ -1,21 +1,8 @@
 //! Walks over bits that load elements give what a list of the same bits gives, and leave what it leaves, also where a test panics.
+//! Edits by a closure change what a list's change.
 
 use fehimbary::prelude::*;
 use std::panic::{catch_unwind, AssertUnwindSafe};
-
-/// An order of its own: the halves of each byte are exchanged.
-#[derive(Clone, Copy)]
-struct Halves;
-
-impl BitOrder for Halves {
-    fn at<R: BitStore>(index: usize) -> usize {
-        index ^ 4
-    }
-
-    fn select<R: BitStore>(index: usize) -> R {
-        R::from_u128(1 << Self::at::<R>(index))
-    }
-}
 
 /// Up to `bits`: numbers at and beside the edges of elements and of words.
 fn edges(bits: usize) -> impl Iterator<Item = usize> + Clone {
@@ -95,11 +82,30 @@ fn assert_walk<I: Walk>(walk: I, list: &[bool], value: fn(I::Item) -> bool) {
     assert_found(&walk, list, value);
 }
 
-fn assert_walks<T: BitStore, O: BitOrder>(elements: &[T]) {
+/// An edit of a part by a closure, which panics where no calls are left, changes the bits that a list's does, and no others.
+fn assert_refills<T: BitStore, O: SliceOrder>(elements: &[T], bits: &[bool], part: std::ops::Range<usize>) {
+    for calls in [0, 1, 13, 65, 1000] {
+        let (mut memory, mut list) = (elements.to_vec(), bits.to_vec());
+        let mut view = BitSliceMut::<T, O>::from_slice_mut(&mut memory).into_part(part.clone());
+        let called = |index, bit| index < calls && (bit ^ (index % 3 == 0));
+        let answer = |index, bit| if index < calls { called(index, bit) } else { panic!("no calls are left") };
+        let ended = catch_unwind(AssertUnwindSafe(|| view.for_each(answer)));
+        assert_eq!(ended.is_ok(), part.len() <= calls);
+        list[part.clone()].iter_mut().enumerate().take(calls).for_each(|(index, bit)| *bit = called(index, *bit));
+        let ended = catch_unwind(AssertUnwindSafe(|| view.part_mut(..part.len() / 2).fill_with(|index| answer(index, true))));
+        assert_eq!(ended.is_ok(), part.len() / 2 <= calls);
+        list[part.clone()][..part.len() / 2].iter_mut().enumerate().take(calls).for_each(|(index, bit)| *bit = called(index, true));
+        let made = BitSlice::<T, O>::from_slice(&memory);
+        assert!((0..made.len()).all(|index| made[index] == list[index]));
+    }
+}
+
+fn assert_walks<T: BitStore, O: SliceOrder>(elements: &[T]) {
     let whole = BitSlice::<T, O>::from_slice(elements);
     let bits: Vec<bool> = (0..whole.len()).map(|index| whole[index]).collect();
     for start in edges(bits.len()) {
         for end in edges(bits.len()).filter(|&end| end >= start) {
+            assert_refills::<T, O>(elements, &bits, start..end);
             let (view, list) = (whole.into_part(start..end), &bits[start..end]);
             assert_walk(view.iter(), list, |bit| *bit);
             assert_walk(view.iter().by_vals(), list, |bit| bit);
@@ -121,12 +127,12 @@ fn walks_by_elements_are_those_of_lists() {
     let done = catch_unwind(|| {
         assert_walks::<u8, Lsb0>(&bytes);
         assert_walks::<u8, Msb0>(&bytes);
-        assert_walks::<u8, Halves>(&bytes);
+        assert_walks::<u8, HiLo>(&bytes);
         assert_walks::<u16, Msb0>(&words.map(|word| [word as u16, (word >> 48) as u16]).concat());
         assert_walks::<u32, Lsb0>(&words.map(|word| [word as u32, (word >> 32) as u32]).concat());
         assert_walks::<u64, Lsb0>(&words);
         assert_walks::<u64, Msb0>(&words);
-        assert_walks::<u64, Halves>(&words);
+        assert_walks::<u64, HiLo>(&words);
         assert_walks::<u128, Msb0>(&words.map(|word| (word as u128) << 70 | word as u128));
     });
     std::panic::set_hook(hook);
