@@ -318,6 +318,25 @@ fn clone_from<O: SliceOrder, B: Bits, T: BitStore>(memory: &mut Memory<'_, T>, w
     engine::bits_copy::<O, B::Order, _, _>(memory, window, &mut Shared::new(src.elements()), src.window());
 }
 
+/// Loads and stores of one kernel each.
+macro_rules! numbers {
+    ($($load:ident $store:ident;)*) => {$(
+        #[doc = concat!("As [`BitSliceMut::", stringify!($load), "`].")]
+        #[track_caller]
+        pub fn $load<I: Integral>(&self) -> I {
+            self.fits::<I>(stringify!($load));
+            I::from_bits(O::$load(&mut self.memory(), self.window()), self.len as u32)
+        }
+
+        #[doc = concat!("As [`BitSliceMut::", stringify!($store), "`].")]
+        #[track_caller]
+        pub fn $store<I: Integral>(&self, value: I) {
+            self.fits::<I>(stringify!($store));
+            O::$store(&mut self.memory(), self.window(), value.to_bits());
+        }
+    )*};
+}
+
 impl<'a, T: BitStore, O: FieldOrder> BitCells<'a, T, O> {
     #[track_caller]
     fn fits<I: Integral>(&self, call: &str) {
@@ -326,38 +345,12 @@ impl<'a, T: BitStore, O: FieldOrder> BitCells<'a, T, O> {
         }
     }
 
-    /// As [`BitSliceMut::load_le`].
-    #[track_caller]
-    pub fn load_le<I: Integral>(&self) -> I {
-        self.fits::<I>("load_le");
-        I::from_bits(O::load_le(&mut self.memory(), self.window()), self.len as u32)
-    }
-
-    /// As [`BitSliceMut::load_be`].
-    #[track_caller]
-    pub fn load_be<I: Integral>(&self) -> I {
-        self.fits::<I>("load_be");
-        I::from_bits(O::load_be(&mut self.memory(), self.window()), self.len as u32)
-    }
+    numbers!(load_le store_le; load_be store_be;);
 
     /// As [`BitSliceMut::load`].
     #[track_caller]
     pub fn load<I: Integral>(&self) -> I {
         if cfg!(target_endian = "little") { self.load_le() } else { self.load_be() }
-    }
-
-    /// As [`BitSliceMut::store_le`].
-    #[track_caller]
-    pub fn store_le<I: Integral>(&self, value: I) {
-        self.fits::<I>("store_le");
-        O::store_le(&mut self.memory(), self.window(), value.to_bits());
-    }
-
-    /// As [`BitSliceMut::store_be`].
-    #[track_caller]
-    pub fn store_be<I: Integral>(&self, value: I) {
-        self.fits::<I>("store_be");
-        O::store_be(&mut self.memory(), self.window(), value.to_bits());
     }
 
     /// As [`BitSliceMut::store`].

@@ -59,25 +59,21 @@ shows!([T: BitStore, O: BitOrder, const N: usize] BitArray<T, O, N>, as_mut_bits
 #[cfg(feature = "alloc")]
 shows!([T: BitStore, O: BitOrder, A: crate::memory::Allocator] BitVec<T, O, A>, as_mut_bitslice);
 
-impl<B: Bits + ?Sized> Bits for &B {
-    type Store = B::Store;
-    type Order = B::Order;
+macro_rules! by_reference {
+    ($($reference:ty)*) => {$(
+        impl<B: Bits + ?Sized> Bits for $reference {
+            type Store = B::Store;
+            type Order = B::Order;
 
-    #[inline]
-    fn bits(&self) -> BitSlice<'_, B::Store, B::Order> {
-        (**self).bits()
-    }
+            #[inline]
+            fn bits(&self) -> BitSlice<'_, B::Store, B::Order> {
+                (**self).bits()
+            }
+        }
+    )*};
 }
 
-impl<B: Bits + ?Sized> Bits for &mut B {
-    type Store = B::Store;
-    type Order = B::Order;
-
-    #[inline]
-    fn bits(&self) -> BitSlice<'_, B::Store, B::Order> {
-        (**self).bits()
-    }
-}
+by_reference!(&B &mut B);
 
 impl<B: BitsMut + ?Sized> BitsMut for &mut B {
     #[inline]

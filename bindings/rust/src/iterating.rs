@@ -42,23 +42,20 @@ macro_rules! walked {
 
 walked!([T: BitStore, O: BitOrder, const N: usize] BitArray<T, O, N>);
 
-impl<'s, T: BitStore, O: BitOrder> IntoIterator for &'s BitSlice<'_, T, O> {
-    type Item = BitRef<'s, T, O>;
-    type IntoIter = crate::slice::Iter<'s, T, O>;
+macro_rules! referred {
+    ($($view:ident)*) => {$(
+        impl<'s, T: BitStore, O: BitOrder> IntoIterator for &'s $view<'_, T, O> {
+            type Item = BitRef<'s, T, O>;
+            type IntoIter = crate::slice::Iter<'s, T, O>;
 
-    fn into_iter(self) -> crate::slice::Iter<'s, T, O> {
-        self.iter()
-    }
+            fn into_iter(self) -> crate::slice::Iter<'s, T, O> {
+                self.iter()
+            }
+        }
+    )*};
 }
 
-impl<'s, T: BitStore, O: BitOrder> IntoIterator for &'s BitSliceMut<'_, T, O> {
-    type Item = BitRef<'s, T, O>;
-    type IntoIter = crate::slice::Iter<'s, T, O>;
-
-    fn into_iter(self) -> crate::slice::Iter<'s, T, O> {
-        self.iter()
-    }
-}
+referred!(BitSlice BitSliceMut);
 
 impl<T: BitStore, O: BitOrder> Clone for crate::slice::BitValIter<'_, T, O> {
     fn clone(&self) -> Self {

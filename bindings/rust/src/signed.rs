@@ -2,6 +2,15 @@
 
 use crate::store::BitStore;
 
+macro_rules! inlined {
+    ($($name:ident($($parameter:tt)*) $(-> $answer:ty)? { $body:expr })*) => {$(
+        #[inline(always)]
+        fn $name($($parameter)*) $(-> $answer)? {
+            $body
+        }
+    )*};
+}
+
 macro_rules! signed {
     ($($signed:ident $unsigned:ident;)*) => {$(
         impl BitStore for $signed {
@@ -9,65 +18,20 @@ macro_rules! signed {
             const ZERO: Self = 0;
             const ALL: Self = -1;
 
-            #[inline(always)]
-            fn in_range(self) {}
-
-            #[inline(always)]
-            fn fits_in_memory() {}
-
-            #[inline(always)]
-            fn from_u128(number: u128) -> Self {
-                number as $signed
-            }
-
-            #[inline(always)]
-            fn to_u128(self) -> u128 {
-                self as $unsigned as u128
-            }
-
-            #[inline(always)]
-            fn and(self, other: Self) -> Self {
-                self & other
-            }
-
-            #[inline(always)]
-            fn or(self, other: Self) -> Self {
-                self | other
-            }
-
-            #[inline(always)]
-            fn xor(self, other: Self) -> Self {
-                self ^ other
-            }
-
-            #[inline(always)]
-            fn not(self) -> Self {
-                !self
-            }
-
-            #[inline(always)]
-            fn shl(self, by: u32) -> Self {
-                self << by
-            }
-
-            #[inline(always)]
-            fn shr(self, by: u32) -> Self {
-                (self as $unsigned >> by) as $signed
-            }
-
-            #[inline(always)]
-            fn count_ones(self) -> u32 {
-                self.count_ones()
-            }
-
-            #[inline(always)]
-            fn leading_zeros(self) -> u32 {
-                self.leading_zeros()
-            }
-
-            #[inline(always)]
-            fn trailing_zeros(self) -> u32 {
-                self.trailing_zeros()
+            inlined! {
+                in_range(self) { () }
+                fits_in_memory() { () }
+                from_u128(number: u128) -> Self { number as $signed }
+                to_u128(self) -> u128 { self as $unsigned as u128 }
+                and(self, other: Self) -> Self { self & other }
+                or(self, other: Self) -> Self { self | other }
+                xor(self, other: Self) -> Self { self ^ other }
+                not(self) -> Self { !self }
+                shl(self, by: u32) -> Self { self << by }
+                shr(self, by: u32) -> Self { (self as $unsigned >> by) as $signed }
+                count_ones(self) -> u32 { self.count_ones() }
+                leading_zeros(self) -> u32 { self.leading_zeros() }
+                trailing_zeros(self) -> u32 { self.trailing_zeros() }
             }
         }
     )*};

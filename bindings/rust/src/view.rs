@@ -67,51 +67,32 @@ impl<T: BitStore, L: AsMut<[T]> + ?Sized> AsMutBits<T> for L {
     }
 }
 
-impl<T: BitStore> BitView for [T] {
-    type Store = T;
+macro_rules! viewed {
+    ($([$($generic:tt)*] $kind:ty, $store:ty, $shared:ident, $writable:ident;)*) => {$(
+        impl<$($generic)*> BitView for $kind {
+            type Store = $store;
 
-    #[track_caller]
-    fn view_bits<O: BitOrder>(&self) -> BitSlice<'_, T, O> {
-        BitSlice::from_slice(self)
-    }
-
-    #[track_caller]
-    fn view_bits_mut<O: BitOrder>(&mut self) -> BitSliceMut<'_, T, O> {
-        BitSliceMut::from_slice_mut(self)
-    }
-}
-
-impl<T: BitStore, const N: usize> BitView for [T; N] {
-    type Store = T;
-
-    #[track_caller]
-    fn view_bits<O: BitOrder>(&self) -> BitSlice<'_, T, O> {
-        BitSlice::from_slice(self)
-    }
-
-    #[track_caller]
-    fn view_bits_mut<O: BitOrder>(&mut self) -> BitSliceMut<'_, T, O> {
-        BitSliceMut::from_slice_mut(self)
-    }
-}
-
-macro_rules! of_elements {
-    ($($element:ty)*) => {$(
-        impl BitView for $element {
-            type Store = $element;
-
-            fn view_bits<O: BitOrder>(&self) -> BitSlice<'_, $element, O> {
-                BitSlice::from_element(self)
+            #[track_caller]
+            fn view_bits<O: BitOrder>(&self) -> BitSlice<'_, $store, O> {
+                BitSlice::$shared(self)
             }
 
-            fn view_bits_mut<O: BitOrder>(&mut self) -> BitSliceMut<'_, $element, O> {
-                BitSliceMut::from_element_mut(self)
+            #[track_caller]
+            fn view_bits_mut<O: BitOrder>(&mut self) -> BitSliceMut<'_, $store, O> {
+                BitSliceMut::$writable(self)
             }
         }
     )*};
+    (elements: $($element:ty)*) => {
+        viewed! { $([] $element, $element, from_element, from_element_mut;)* }
+    };
 }
 
-of_elements!(u8 u16 u32 u64 u128 usize);
+viewed! {
+    [T: BitStore] [T], T, from_slice, from_slice_mut;
+    [T: BitStore, const N: usize] [T; N], T, from_slice, from_slice_mut;
+}
+viewed!(elements: u8 u16 u32 u64 u128 usize i8 i16 i32 i64 i128 isize);
 
 /// The constructors of writable views by the name of the shared one, as `bitvec` has them.
 impl<'a, T: BitStore, O: BitOrder> BitSlice<'a, T, O> {

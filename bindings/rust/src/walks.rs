@@ -218,6 +218,21 @@ fn sized(call: &str, size: usize) -> usize {
     size
 }
 
+/// Walks over pieces of a length.
+macro_rules! chunks {
+    ($($(#[$doc:meta])+ $name:ident -> $walk:ident, $way:ident;)*) => {$(
+        $(#[$doc])+
+        ///
+        /// # Panics
+        ///
+        /// It panics where `size` is 0.
+        #[track_caller]
+        pub fn $name(self, size: usize) -> $walk<'a, T, O> {
+            CutMut::new(self, $way { size: sized(stringify!($name), size) })
+        }
+    )*};
+}
+
 /// What cuts a piece.
 impl<'a, T: BitStore, O: BitOrder> BitCells<'a, T, O> {
     /// The bits, for writing, one by one and from both ends.
@@ -253,44 +268,15 @@ impl<'a, T: BitStore, O: BitOrder> BitCells<'a, T, O> {
         Some((BitCell::new(&self, last), self.cut(0..last)))
     }
 
-    /// Pieces of `size` bits from the first on, for writing; the last may be shorter.
-    ///
-    /// # Panics
-    ///
-    /// It panics where `size` is 0.
-    #[track_caller]
-    pub fn chunks_mut(self, size: usize) -> ChunksMut<'a, T, O> {
-        CutMut::new(self, InChunks { size: sized("chunks_mut", size) })
-    }
-
-    /// Pieces of `size` bits from the first on, for writing; the remainder is what no piece has.
-    ///
-    /// # Panics
-    ///
-    /// It panics where `size` is 0.
-    #[track_caller]
-    pub fn chunks_exact_mut(self, size: usize) -> ChunksExactMut<'a, T, O> {
-        CutMut::new(self, InExactChunks { size: sized("chunks_exact_mut", size) })
-    }
-
-    /// Pieces of `size` bits from the last back, for writing; the last of them may be shorter.
-    ///
-    /// # Panics
-    ///
-    /// It panics where `size` is 0.
-    #[track_caller]
-    pub fn rchunks_mut(self, size: usize) -> RChunksMut<'a, T, O> {
-        CutMut::new(self, InChunksFromEnd { size: sized("rchunks_mut", size) })
-    }
-
-    /// Pieces of `size` bits from the last back, for writing; the remainder is what no piece has.
-    ///
-    /// # Panics
-    ///
-    /// It panics where `size` is 0.
-    #[track_caller]
-    pub fn rchunks_exact_mut(self, size: usize) -> RChunksExactMut<'a, T, O> {
-        CutMut::new(self, InExactChunksFromEnd { size: sized("rchunks_exact_mut", size) })
+    chunks! {
+        /// Pieces of `size` bits from the first on, for writing; the last may be shorter.
+        chunks_mut -> ChunksMut, InChunks;
+        /// Pieces of `size` bits from the first on, for writing; the remainder is what no piece has.
+        chunks_exact_mut -> ChunksExactMut, InExactChunks;
+        /// Pieces of `size` bits from the last back, for writing; the last of them may be shorter.
+        rchunks_mut -> RChunksMut, InChunksFromEnd;
+        /// Pieces of `size` bits from the last back, for writing; the remainder is what no piece has.
+        rchunks_exact_mut -> RChunksExactMut, InExactChunksFromEnd;
     }
 
     /// The pieces between bits for which a predicate holds, for writing.
