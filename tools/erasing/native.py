@@ -58,6 +58,7 @@ def adapt(source):
     edit(proved / "owned/array.rs", r"\n *if [^\n]*\n *crate::conditions::fails\(\"new\"[^\n]*\n *\}", lambda _: "")
     for name, old, new in EDITS:
         edit(proved / name, re.escape(old), lambda _: new)
+    edit(proved / "query/places.rs", r" Iterator\s+for Places<'a, T, O, W> \{\n    type Item = usize;\n", lambda it: it[0] + "\n    crate::ones::passing!();\n")
     edit(proved / "edit/edits.rs", OUT_OF_LINE, lambda it: "#[inline(never)]" + it[1])
     for name, walk, item, held, made in BY_ELEMENTS:
         form = f"{item}, [{held}view], [{held}indices], |bit| {made});\n"

@@ -40,6 +40,7 @@ mod laws;
 pub mod macros;
 pub mod memory;
 mod older;
+mod ones;
 mod operators;
 mod parts;
 #[cfg(feature = "alloc")]

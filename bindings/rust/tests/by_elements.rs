@@ -45,6 +45,26 @@ fn assert_passed<I: Walk>(walk: &I, list: &[bool], value: fn(I::Item) -> bool) {
     }
 }
 
+/// Walks over the indices of ones pass those that a list's do, also where some were taken from either end before.
+fn assert_places<I: Walk + Iterator<Item = usize>>(places: I, list: &[usize]) {
+    assert_eq!(places.clone().count(), list.len());
+    assert_eq!(places.clone().last(), list.last().copied());
+    for (front, back, skipped) in edges(list.len()).flat_map(|front| edges(3).flat_map(move |back| edges(300).map(move |skipped| (front, back, skipped)))) {
+        let (mut walk, mut left) = (places.clone(), list.iter().copied());
+        for _ in 0..front {
+            assert_eq!(walk.next(), left.next());
+        }
+        for _ in 0..back {
+            assert_eq!(walk.next_back(), left.next_back());
+        }
+        assert_eq!(walk.nth(skipped), left.nth(skipped));
+        assert_eq!(walk.len(), left.len());
+        assert_eq!(walk.clone().next_back(), left.clone().next_back());
+        assert_eq!(walk.nth(2), left.nth(2));
+        assert!(walk.eq(left));
+    }
+}
+
 /// A search of either walk for a bit, whose test panics at its call `calls`, three times one after the other.
 macro_rules! assert_sought {
     ($walk:expr, $list:expr, $value:expr, $wanted:expr, $calls:expr, $($name:ident)*) => {$(
@@ -107,6 +127,14 @@ fn assert_walks<T: BitStore, O: SliceOrder>(elements: &[T]) {
         for end in edges(bits.len()).filter(|&end| end >= start) {
             assert_refills::<T, O>(elements, &bits, start..end);
             let (view, list) = (whole.into_part(start..end), &bits[start..end]);
+            for wanted in [true, false] {
+                let places: Vec<usize> = (0..list.len()).filter(|&index| list[index] == wanted).collect();
+                if wanted {
+                    assert_places(view.iter_ones(), &places);
+                } else {
+                    assert_places(view.iter_zeros(), &places);
+                }
+            }
             assert_walk(view.iter(), list, |bit| *bit);
             assert_walk(view.iter().by_vals(), list, |bit| bit);
             assert_walk(view.iter().by_refs(), list, |bit| *bit);
