@@ -1,6 +1,7 @@
 #!/usr/bin/env python3
-"""keeping.py: lays into the crates' out/ of this clone the libraries that `rt ci` kept on this machine of exactly these sources, lowest first, so that
-`rt lib` doesn't prove them again. `tools/proofs pack` and `tools/release` run it.
+"""keeping.py [CRATE..]: lays into the crates' out/ of this clone the libraries that `rt ci` kept on this machine of exactly these sources, lowest
+first, so that `rt lib` doesn't prove them again: these with all below, or all. Its status is 0 where all of these stand built then.
+`tools/proofs pack` and `tools/release` run it.
 
 What is kept, and by which sum, `rt` itself says: its own module is asked, so each file is compared with its sum, and a library of other
 sources, or that stands on one, is left as it is. One that is built already stays. Where `rt` has no such names any more, this lays
@@ -43,21 +44,24 @@ def lay(rt, crate, kept):
     return True
 
 
-def main(_):
+def main(names):
     os.chdir(TOP)
     rt = rt_itself()
-    crates = [it for it in rt.rtlib.crates_below(str(TOP)) if not it.is_program and not it.is_static]
+    wanted = library.below(library.lines_of(TOP), *names)
+    crates = [it for it in rt.rtlib.crates_below(str(TOP)) if not it.is_program and not it.is_static and (not names or it.name in wanted)]
     rt.Crate.allowed = rt.handles_of(str(TOP))
     kept, laid = rt.Kept(crates), set()
     for crate in crates:
         if all(it.name in laid or it not in crates for it in crate.below()) and lay(rt, crate, kept):
             laid.add(crate.name)
     print(f"{len(laid)} of {len(crates)} libraries stand built")
+    return len(laid) < len(crates)
 
 
-def lay_kept():
-    """Lays what was kept, in a process of its own. Where that fails, `rt lib` proves."""
-    subprocess.run([sys.executable, pathlib.Path(__file__).resolve()], stdout=sys.stderr, stderr=subprocess.DEVNULL)
+def lay_kept(*names):
+    """Lays what was kept, in a process of its own. Whether all stand built then; where it fails, `rt lib` proves."""
+    words = [sys.executable, pathlib.Path(__file__).resolve(), *names]
+    return subprocess.run(words, stdout=sys.stderr, stderr=subprocess.DEVNULL).returncode == 0
 
 
 if __name__ == "__main__":

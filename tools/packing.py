@@ -18,9 +18,9 @@ ZIP = ["zstd", "-q", "-T0", "-9", "--long=27", "-c"]
 
 def build(lines):
     """Has `rt` build what neither is built nor was kept by its gate."""
-    keeping.lay_kept()
-    for root in ROOTS:
-        if root in lines and subprocess.run(["rt", "lib"], cwd=TOP / "crates" / root, stdout=sys.stderr).returncode:
+    roots = [root for root in ROOTS if root in lines]
+    for root in [] if keeping.lay_kept(*roots) else roots:
+        if subprocess.run(["rt", "lib"], cwd=TOP / "crates" / root, stdout=sys.stderr).returncode:
             raise Refused(f"rt lib doesn't build {root}")
 
 
