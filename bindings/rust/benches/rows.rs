@@ -34,6 +34,22 @@ const ROWS: &[Row] = &[
         },
     },
     Row {
+        name: "ones of by_vals",
+        call: |to, _| to.view_bits::<Lsb0>().iter().by_vals().filter(|bit| *bit).count(),
+        by_hand: |to, _| to.iter().map(|word| (0..64).map(|index| (word >> index & 1) as usize).sum::<usize>()).sum(),
+    },
+    Row {
+        name: "for_each",
+        call: |to, _| {
+            to.view_bits_mut::<Lsb0>().for_each(|index, bit| bit ^ (index & 3 == 0));
+            0
+        },
+        by_hand: |to, _| {
+            to.iter_mut().for_each(|word| *word ^= u64::MAX / 15);
+            0
+        },
+    },
+    Row {
         name: "sum of iter_ones",
         call: |to, _| to.view_bits::<Lsb0>().iter_ones().sum(),
         by_hand: |to, _| {
