@@ -1,7 +1,6 @@
 //! Conversions between views, sequences, arrays and elements.
 
 use crate::prelude::*;
-use core::fmt;
 
 /// What is made of a value by an expression.
 macro_rules! from {
@@ -37,15 +36,6 @@ impl<T: BitStore, O: BitOrder, const N: usize> Default for BitArray<T, O, N> {
 /// A view has not as many bits as the array.
 #[derive(Clone, Copy, Debug, PartialEq, Eq)]
 pub struct TryFromBitSliceError;
-
-impl fmt::Display for TryFromBitSliceError {
-    fn fmt(&self, f: &mut fmt::Formatter<'_>) -> fmt::Result {
-        f.write_str("the view has not as many bits as the array")
-    }
-}
-
-#[cfg(feature = "std")]
-impl std::error::Error for TryFromBitSliceError {}
 
 /// The same bits; the error where they aren't as many as the array has.
 impl<T: BitStore, O: SliceOrder, const N: usize> TryFrom<BitSlice<'_, T, O>> for BitArray<T, O, N> {

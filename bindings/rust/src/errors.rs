@@ -1,5 +1,7 @@
-//! What the errors of the text print that Rattle doesn't derive it for.
+//! What errors print: those of the text that Rattle doesn't derive it for, and those by hand.
 
+use crate::conversions::TryFromBitSliceError;
+use crate::memory::AllocError;
 use crate::prelude::Lsb0;
 use crate::ptr::BitSpanError;
 #[cfg(feature = "alloc")]
@@ -25,6 +27,8 @@ macro_rules! printed {
 }
 
 printed! {
+    AllocError: |_error, f| f.write_str("memory was refused");
+    TryFromBitSliceError: |_error, f| f.write_str("the view has not as many bits as the array");
     BitSpanError: |error, f| {
         let BitSpanError::TooLong(bits) = error;
         let most = crate::slice::BitSlice::<u8, Lsb0>::MAX_BITS;

@@ -4,15 +4,6 @@
 #[derive(Clone, Copy, Debug, PartialEq, Eq)]
 pub struct AllocError;
 
-impl core::fmt::Display for AllocError {
-    fn fmt(&self, f: &mut core::fmt::Formatter<'_>) -> core::fmt::Result {
-        f.write_str("memory was refused")
-    }
-}
-
-#[cfg(feature = "std")]
-impl std::error::Error for AllocError {}
-
 /// Says whether a request for memory is granted. What is granted comes from the global allocator, which may refuse it too.
 ///
 /// A type of one's own bounds what a sequence may take, as a budget does.
@@ -64,6 +55,17 @@ mod growing {
     pub trait TryExtend<I> {
         /// Adds the items of an iterator.
         fn try_extend<S: IntoIterator<Item = I>>(&mut self, items: S) -> Result<(), AllocError>;
+    }
+
+    /// Calls of one expression.
+    macro_rules! passed {
+        ($($(#[$doc:meta])+ $public:vis $name:ident($($parameter:tt)*) -> $answer:ty { $body:expr })*) => {$(
+            $(#[$doc])+
+            #[inline]
+            $public fn $name($($parameter)*) -> $answer {
+                $body
+            }
+        )*};
     }
 
     /// A vector whose calls answer where memory is refused. It is a slice by `Deref`, and a `Vec` of Rust by `into`.
@@ -137,12 +139,6 @@ mod growing {
             Ok(())
         }
 
-        /// Adds an item for which there is room.
-        #[inline]
-        pub(crate) fn push_reserved(&mut self, item: T) {
-            self.items.push(item);
-        }
-
         /// Keeps the first `len` items, or adds as many clones as there are `len` with them.
         #[inline]
         pub fn try_resize(&mut self, len: usize, item: T) -> Result<(), AllocError>
@@ -164,30 +160,6 @@ mod growing {
             Ok(made)
         }
 
-        /// How many items there is room for, those that are there with them.
-        #[inline]
-        pub fn capacity(&self) -> usize {
-            self.items.capacity()
-        }
-
-        /// Keeps the first `len` items.
-        #[inline]
-        pub fn truncate(&mut self, len: usize) {
-            self.items.truncate(len);
-        }
-
-        /// Takes the last item.
-        #[inline]
-        pub fn pop(&mut self) -> Option<T> {
-            self.items.pop()
-        }
-
-        /// Drops the last item.
-        #[inline]
-        pub(crate) fn take_last(&mut self) {
-            self.items.pop();
-        }
-
         /// Gives back the memory that the items don't need, by a request for what they do; where it is refused, all stays.
         pub fn shrink_to_fit(&mut self) {
             let bytes = self.items.len() * core::mem::size_of::<T>();
@@ -196,26 +168,25 @@ mod growing {
             }
         }
 
-        /// What grants its requests.
-        pub fn allocator(&self) -> &A {
-            &self.alloc
-        }
-
-        /// The items.
-        #[inline]
-        pub fn as_slice(&self) -> &[T] {
-            &self.items
-        }
-
-        /// The items, for writing.
-        #[inline]
-        pub fn as_mut_slice(&mut self) -> &mut [T] {
-            &mut self.items
-        }
-
-        /// The items as a `Vec` of Rust.
-        pub fn into_std(self) -> vec::Vec<T> {
-            self.items
+        passed! {
+            /// How many items there is room for, those that are there with them.
+            pub capacity(&self) -> usize { self.items.capacity() }
+            /// Keeps the first `len` items.
+            pub truncate(&mut self, len: usize) -> () { self.items.truncate(len) }
+            /// Takes the last item.
+            pub pop(&mut self) -> Option<T> { self.items.pop() }
+            /// Drops the last item.
+            pub(crate) take_last(&mut self) -> () { drop(self.items.pop()) }
+            /// Adds an item for which there is room.
+            pub(crate) push_reserved(&mut self, item: T) -> () { self.items.push(item) }
+            /// What grants its requests.
+            pub allocator(&self) -> &A { &self.alloc }
+            /// The items.
+            pub as_slice(&self) -> &[T] { &self.items }
+            /// The items, for writing.
+            pub as_mut_slice(&mut self) -> &mut [T] { &mut self.items }
+            /// The items as a `Vec` of Rust.
+            pub into_std(self) -> vec::Vec<T> { self.items }
         }
     }
 

@@ -111,26 +111,9 @@ written!(BitCell, |place, bit| place.write(0, bit));
 /// Comparisons of a reference with a bit, from both sides.
 macro_rules! as_bool {
     ($($kind:ident)*) => {$(
-        impl<T: BitStore, O: BitOrder> PartialEq<bool> for $kind<'_, T, O> {
-            #[inline]
-            fn eq(&self, other: &bool) -> bool {
-                **self == *other
-            }
-        }
-
-        impl<T: BitStore, O: BitOrder> PartialEq<&bool> for $kind<'_, T, O> {
-            #[inline]
-            fn eq(&self, other: &&bool) -> bool {
-                **self == **other
-            }
-        }
-
-        impl<T: BitStore, O: BitOrder> PartialEq<$kind<'_, T, O>> for bool {
-            #[inline]
-            fn eq(&self, other: &$kind<'_, T, O>) -> bool {
-                *self == **other
-            }
-        }
+        as_bool!(@ $kind<'_, T, O>, bool, |bit, other| **bit == *other);
+        as_bool!(@ $kind<'_, T, O>, &bool, |bit, other| **bit == **other);
+        as_bool!(@ bool, $kind<'_, T, O>, |bit, other| *bit == **other);
 
         impl<T: BitStore, O: BitOrder> core::ops::Not for $kind<'_, T, O> {
             type Output = bool;
@@ -141,6 +124,15 @@ macro_rules! as_bool {
             }
         }
     )*};
+    (@ $kind:ty, $other:ty, |$bit:ident, $with:ident| $equal:expr) => {
+        impl<T: BitStore, O: BitOrder> PartialEq<$other> for $kind {
+            #[inline]
+            fn eq(&self, $with: &$other) -> bool {
+                let $bit = self;
+                $equal
+            }
+        }
+    };
 }
 
 as_bool!(BitRef BitRefMut BitCell);

@@ -89,29 +89,21 @@ impl u64x2 {
     }
 }
 
-impl Shl for u64x2 {
-    type Output = Self;
+macro_rules! lane_by_lane {
+    ($($trait:ident $method:ident $operator:tt;)*) => {$(
+        impl $trait for u64x2 {
+            type Output = Self;
 
-    #[inline(always)]
-    fn shl(self, by: Self) -> Self {
-        u64x2([self.0[0] << by.0[0], self.0[1] << by.0[1]])
-    }
+            #[inline(always)]
+            fn $method(self, by: Self) -> Self {
+                u64x2([self.0[0] $operator by.0[0], self.0[1] $operator by.0[1]])
+            }
+        }
+    )*};
 }
 
-impl Shr for u64x2 {
-    type Output = Self;
-
-    #[inline(always)]
-    fn shr(self, by: Self) -> Self {
-        u64x2([self.0[0] >> by.0[0], self.0[1] >> by.0[1]])
-    }
-}
-
-impl BitOr for u64x2 {
-    type Output = Self;
-
-    #[inline(always)]
-    fn bitor(self, other: Self) -> Self {
-        u64x2([self.0[0] | other.0[0], self.0[1] | other.0[1]])
-    }
+lane_by_lane! {
+    Shl shl <<;
+    Shr shr >>;
+    BitOr bitor |;
 }

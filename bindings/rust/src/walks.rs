@@ -133,18 +133,23 @@ struct Way {
     most: usize,
 }
 
-/// The pieces between bits for which a predicate holds, for writing.
-pub struct SplitMut<'a, T: BitStore, O: BitOrder, P> {
+/// The pieces between bits for which a predicate holds, for writing, from both ends where `ENDS` says so.
+pub struct SplitsMut<'a, T: BitStore, O: BitOrder, P, const ENDS: bool> {
     rest: Option<BitCells<'a, T, O>>,
     pred: P,
     way: Way,
 }
 
-impl<'a, T: BitStore, O: BitOrder, P: FnMut(usize, &bool) -> bool> SplitMut<'a, T, O, P> {
+/// The pieces between bits for which a predicate holds, for writing.
+pub type SplitMut<'a, T, O, P> = SplitsMut<'a, T, O, P, false>;
+/// The pieces between bits for which a predicate holds, for writing, from both ends.
+pub type SplitEndsMut<'a, T, O, P> = SplitsMut<'a, T, O, P, true>;
+
+impl<'a, T: BitStore, O: BitOrder, P: FnMut(usize, &bool) -> bool, const ENDS: bool> SplitsMut<'a, T, O, P, ENDS> {
     fn new(piece: BitCells<'a, T, O>, pred: P, way: Way) -> Self {
         let none = way.most == 0 || way.inclusive && piece.is_empty();
         let rest = if none { None } else { Some(piece) };
-        SplitMut { rest, pred, way }
+        SplitsMut { rest, pred, way }
     }
 
     /// The next piece from the front or the back.
@@ -169,7 +174,7 @@ impl<'a, T: BitStore, O: BitOrder, P: FnMut(usize, &bool) -> bool> SplitMut<'a, 
     }
 }
 
-impl<'a, T: BitStore, O: BitOrder, P: FnMut(usize, &bool) -> bool> Iterator for SplitMut<'a, T, O, P> {
+impl<'a, T: BitStore, O: BitOrder, P: FnMut(usize, &bool) -> bool, const ENDS: bool> Iterator for SplitsMut<'a, T, O, P, ENDS> {
     type Item = BitCells<'a, T, O>;
 
     fn next(&mut self) -> Option<BitCells<'a, T, O>> {
@@ -184,30 +189,13 @@ impl<'a, T: BitStore, O: BitOrder, P: FnMut(usize, &bool) -> bool> Iterator for 
     }
 }
 
-impl<T: BitStore, O: BitOrder, P: FnMut(usize, &bool) -> bool> FusedIterator for SplitMut<'_, T, O, P> {}
-
-/// The pieces between bits for which a predicate holds, for writing, from both ends.
-pub struct SplitEndsMut<'a, T: BitStore, O: BitOrder, P>(SplitMut<'a, T, O, P>);
-
-impl<'a, T: BitStore, O: BitOrder, P: FnMut(usize, &bool) -> bool> Iterator for SplitEndsMut<'a, T, O, P> {
-    type Item = BitCells<'a, T, O>;
-
-    fn next(&mut self) -> Option<BitCells<'a, T, O>> {
-        self.0.next()
-    }
-
-    fn size_hint(&self) -> (usize, Option<usize>) {
-        self.0.size_hint()
-    }
-}
-
 impl<'a, T: BitStore, O: BitOrder, P: FnMut(usize, &bool) -> bool> DoubleEndedIterator for SplitEndsMut<'a, T, O, P> {
     fn next_back(&mut self) -> Option<BitCells<'a, T, O>> {
-        self.0.step(!self.0.way.reversed)
+        self.step(!self.way.reversed)
     }
 }
 
-impl<T: BitStore, O: BitOrder, P: FnMut(usize, &bool) -> bool> FusedIterator for SplitEndsMut<'_, T, O, P> {}
+impl<T: BitStore, O: BitOrder, P: FnMut(usize, &bool) -> bool, const ENDS: bool> FusedIterator for SplitsMut<'_, T, O, P, ENDS> {}
 
 /// A way's length, which is above 0.
 #[track_caller]
@@ -281,27 +269,27 @@ impl<'a, T: BitStore, O: BitOrder> BitCells<'a, T, O> {
 
     /// The pieces between bits for which a predicate holds, for writing.
     pub fn split_mut<P: FnMut(usize, &bool) -> bool>(self, pred: P) -> SplitEndsMut<'a, T, O, P> {
-        SplitEndsMut(SplitMut::new(self, pred, Way { inclusive: false, reversed: false, most: usize::MAX }))
+        SplitsMut::new(self, pred, Way { inclusive: false, reversed: false, most: usize::MAX })
     }
 
     /// The pieces that end behind bits for which a predicate holds, for writing.
     pub fn split_inclusive_mut<P: FnMut(usize, &bool) -> bool>(self, pred: P) -> SplitEndsMut<'a, T, O, P> {
-        SplitEndsMut(SplitMut::new(self, pred, Way { inclusive: true, reversed: false, most: usize::MAX }))
+        SplitsMut::new(self, pred, Way { inclusive: true, reversed: false, most: usize::MAX })
     }
 
     /// The pieces between bits for which a predicate holds, for writing, from the last on.
     pub fn rsplit_mut<P: FnMut(usize, &bool) -> bool>(self, pred: P) -> SplitEndsMut<'a, T, O, P> {
-        SplitEndsMut(SplitMut::new(self, pred, Way { inclusive: false, reversed: true, most: usize::MAX }))
+        SplitsMut::new(self, pred, Way { inclusive: false, reversed: true, most: usize::MAX })
     }
 
     /// At most `count` pieces between bits for which a predicate holds, for writing; the last has all that is left.
     pub fn splitn_mut<P: FnMut(usize, &bool) -> bool>(self, count: usize, pred: P) -> SplitMut<'a, T, O, P> {
-        SplitMut::new(self, pred, Way { inclusive: false, reversed: false, most: count })
+        SplitsMut::new(self, pred, Way { inclusive: false, reversed: false, most: count })
     }
 
     /// At most `count` such pieces, for writing, from the last on; the last of them has all that is left.
     pub fn rsplitn_mut<P: FnMut(usize, &bool) -> bool>(self, count: usize, pred: P) -> SplitMut<'a, T, O, P> {
-        SplitMut::new(self, pred, Way { inclusive: false, reversed: true, most: count })
+        SplitsMut::new(self, pred, Way { inclusive: false, reversed: true, most: count })
     }
 }
 
