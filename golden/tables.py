@@ -16,7 +16,8 @@ A table is blocks with an empty line between two; a line that begins with `#` sa
     disk N ..          files have room for N bytes, in a run for each N; standard output is none of them
 
 All of a block holds of each line `$`, and of each with each line `?`. Afterwards the folder has just the files that the
-block names. `\\s` is a space, `\\0` the byte 0, `\\t`, `\\r` and `\\n` are those of C, `\\xFF` is any byte, `\\\\` a backslash."""
+block names. `\\s` is a space, `\\0` the byte 0, `\\t`, `\\r` and `\\n` are those of C, `\\xFF` is any byte, `\\\\` a backslash. `\\c` at
+the end of a line takes its line feed away."""
 import itertools
 import re
 import shlex
@@ -24,6 +25,7 @@ from dataclasses import dataclass, field
 
 ESCAPE = re.compile(r"\\(x[0-9A-Fa-f]{2}|.|$)")
 ESCAPED = {"s": b" ", "0": b"\0", "t": b"\t", "r": b"\r", "n": b"\n", "\\": b"\\"}
+CUT = "\\c"
 SOURCES = ("folder", "closed")
 ROW = re.compile(r"(?P<given>.*?)(?:(?:^| )=>(?: (?P<wanted>.*)|$))?")
 
@@ -143,7 +145,7 @@ def bytes_of(text):
 
 
 def line_of(text):
-    return bytes_of(text) + b"\n"
+    return bytes_of(text.removesuffix(CUT)) + b"\n" * (not text.endswith(CUT))
 
 
 def words_of(text):

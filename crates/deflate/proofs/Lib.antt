@@ -1,0 +1,3 @@
+pub mod LiteralLaws
+pub mod NumberLaws
+pub mod StepLaws

@@ -1,0 +1,5 @@
+pub mod Deflate
+pub mod Faults
+pub mod Literals
+pub mod Program
+pub mod Reading
