@@ -53,7 +53,9 @@ def run_by_rt(tree, crate):
     if (folder / "src/lib.rt").is_file():
         return results_in(said_by(["rt", "try", "--test"], folder))
     words = (folder / "args").read_text().splitlines() if (folder / "args").is_file() else []
-    ran = subprocess.run(["rt", "try", "--", *words], cwd=folder, stdout=subprocess.PIPE, stderr=subprocess.PIPE, universal_newlines=True)
+    given = folder / "stdin"
+    with given.open("rb") if given.is_file() else open(os.devnull, "rb") as stdin:
+        ran = subprocess.run(["rt", "try", "--", *words], cwd=folder, stdin=stdin, stdout=subprocess.PIPE, stderr=subprocess.PIPE, universal_newlines=True)
     same = ran.stdout == (folder / "stdout").read_text()
     return set() if same else {"stdout"}, {"stdout"}, ran.stdout + ran.stderr
 
